@@ -1,0 +1,5 @@
+pub mod Pick
+pub mod Text
+pub mod Rows
+pub mod Packed
+pub mod Kinds

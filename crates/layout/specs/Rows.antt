@@ -1,0 +1,237 @@
+-- 01, "The 98 rows", as data in 01's order, and what the table says of a row. A row goes by its number, from 0.
+use mathlib.Core.Bool.{Bool, true, false, _&&_}
+use mathlib.Core.List.{List, [], _∷_, _++_}
+use Prim.Native.Nat.{ℕ, zero, suc, _-_, _/_, _%_}
+use Prim.Native.String.{String}
+use lib.Dec.{eqb, leb}
+use lib.ListN.{getD}
+use Rattle.layout.specs.Pick.{pick}
+use Rattle.layout.specs.Text.{bytes, textNumber}
+
+-- a row as 01 lists it
+pub record Listed : Type 0 where
+  pub code : String
+  pub fields : ℕ
+  pub level : ℕ
+  pub occurrence : ℕ
+
+abbrev row : String → ℕ → ℕ → ℕ → Listed
+row c f l o = record { code = c; fields = f; level = l; occurrence = o }
+
+-- "N any number"
+abbrev pub N : ℕ
+N = 0
+
+-- "P stands for 1/período or 1/data"
+abbrev pub P : ℕ
+P = 1000
+
+-- the number of rows; as the number of a row it stands for "no row"
+abbrev pub rowCount : ℕ
+rowCount = 98
+
+abbrev pub none : ℕ
+none = rowCount
+
+-- code, fields, level, occurrence
+abbrev block0 : List Listed
+block0 =
+    row "0000" 20 0 1 ∷
+    row "0001" 2 1 1 ∷
+    row "0005" 14 2 1 ∷
+    row "0025" 3 2 N ∷
+    row "0030" 18 2 1 ∷
+    row "0100" 18 2 1 ∷
+    row "0150" 13 2 N ∷
+    row "0175" 10 3 1 ∷
+    row "0200" 5 2 N ∷
+    row "0205" 5 3 N ∷
+    row "0210" 9 3 N ∷
+    row "0215" 4 3 N ∷
+    row "0400" 4 2 N ∷
+    row "0450" 3 2 N ∷
+    row "0455" 2 3 N ∷
+    row "0460" 16 3 N ∷
+    row "0465" 24 3 N ∷
+    row "0470" 11 3 N ∷
+    row "0990" 2 1 1 ∷
+    []
+
+abbrev blockC : List Listed
+blockC =
+    row "C001" 2 1 1 ∷
+    row "C020" 28 2 N ∷
+    row "C040" 6 3 1 ∷
+    row "C300" 21 3 990 ∷
+    row "C305" 2 4 1 ∷
+    row "C310" 4 4 1 ∷
+    row "C550" 17 2 N ∷
+    row "C560" 14 3 N ∷
+    row "C600" 22 2 N ∷
+    row "C605" 8 3 1 ∷
+    row "C610" 17 3 N ∷
+    row "C615" 6 4 1 ∷
+    row "C990" 2 1 1 ∷
+    []
+
+abbrev blockE : List Listed
+blockE =
+    row "E001" 2 1 1 ∷
+    row "E003" 5 2 N ∷
+    row "E020" 30 2 N ∷
+    row "E025" 17 3 N ∷
+    row "E050" 16 2 N ∷
+    row "E055" 9 3 N ∷
+    row "E060" 23 2 N ∷
+    row "E065" 6 3 N ∷
+    row "E080" 18 2 N ∷
+    row "E085" 10 3 N ∷
+    row "E100" 25 2 N ∷
+    row "E105" 11 3 N ∷
+    row "E120" 25 2 N ∷
+    row "E140" 19 2 N ∷
+    row "E300" 3 2 P ∷
+    row "E305" 23 3 N ∷
+    row "E310" 10 3 N ∷
+    row "E330" 14 3 N ∷
+    row "E340" 24 3 P ∷
+    row "E350" 10 3 N ∷
+    row "E360" 11 3 N ∷
+    row "E500" 4 2 P ∷
+    row "E520" 7 3 N ∷
+    row "E525" 7 3 N ∷
+    row "E540" 16 3 P ∷
+    row "E550" 7 3 N ∷
+    row "E560" 10 3 N ∷
+    row "E990" 2 1 1 ∷
+    []
+
+abbrev blockF : List Listed
+blockF =
+    row "F001" 2 1 1 ∷
+    row "F020" 6 2 P ∷
+    row "F025" 6 3 N ∷
+    row "F030" 6 4 N ∷
+    row "F035" 10 5 N ∷
+    row "F200" 4 2 P ∷
+    row "F205" 6 3 N ∷
+    row "F210" 3 3 N ∷
+    row "F215" 12 4 N ∷
+    row "F220" 8 5 N ∷
+    row "F225" 15 6 N ∷
+    row "F230" 6 6 N ∷
+    row "F250" 4 2 P ∷
+    row "F255" 19 3 N ∷
+    row "F990" 2 1 1 ∷
+    []
+
+abbrev blockG : List Listed
+blockG =
+    row "G001" 2 1 1 ∷
+    row "G020" 4 2 P ∷
+    row "G025" 17 3 N ∷
+    row "G030" 11 3 N ∷
+    row "G050" 19 3 N ∷
+    row "G400" 10 3 N ∷
+    row "G410" 14 3 N ∷
+    row "G420" 24 3 P ∷
+    row "G430" 3 3 N ∷
+    row "G440" 7 3 N ∷
+    row "G450" 15 3 N ∷
+    row "G460" 15 4 N ∷
+    row "G990" 2 1 1 ∷
+    []
+
+abbrev blockH : List Listed
+blockH =
+    row "H001" 2 1 1 ∷
+    row "H020" 12 2 P ∷
+    row "H030" 16 3 N ∷
+    row "H040" 3 3 N ∷
+    row "H050" 3 3 N ∷
+    row "H060" 3 3 N ∷
+    row "H990" 2 1 1 ∷
+    []
+
+abbrev block9 : List Listed
+block9 =
+    row "9001" 2 1 1 ∷
+    row "9990" 2 1 1 ∷
+    row "9999" 2 0 1 ∷
+    []
+
+unfoldable pub rowTable : List Listed
+rowTable = block0 ++ blockC ++ blockE ++ blockF ++ blockG ++ blockH ++ block9
+
+-- of a line whose code has not come, or is none of these, only field 1 may still come
+abbrev pub noRow : Listed
+noRow = row "" 1 0 N
+
+unfoldable pub listed : ℕ → Listed
+listed r = getD rowTable r noRow
+
+unfoldable pub code : ℕ → ℕ
+code r = textNumber (listed r .code)
+
+unfoldable pub fields : ℕ → ℕ
+fields r = listed r .fields
+
+unfoldable pub level : ℕ → ℕ
+level r = listed r .level
+
+unfoldable pub occurrence : ℕ → ℕ
+occurrence r = listed r .occurrence
+
+-- "P .. is read as N at level 2 and as 1 at level 3"
+unfoldable pub limit : ℕ → ℕ
+limit r = pick (eqb (occurrence r) P) (pick (eqb (level r) 2) N 1) (occurrence r)
+
+-- "Blocks come in the order 0, C, E, F, G, H, 9": a block goes by its place in this order
+unfoldable pub blockLetters : List ℕ
+blockLetters = bytes "0CEFGH9"
+
+unfoldable pub placeOf : ℕ → List ℕ → ℕ
+placeOf x [] = 0
+placeOf x (y ∷ ys) = pick (eqb x y) 0 (suc (placeOf x ys))
+
+-- the block of a row: its code's first byte
+unfoldable pub block : ℕ → ℕ
+block r = placeOf (code r / 16777216) blockLetters
+
+-- "A block runs from its x001 to its x990"
+unfoldable pub isOpening : ℕ → Bool
+isOpening r = eqb (code r % 16777216) (textNumber "001")
+
+unfoldable pub isClosing : ℕ → Bool
+isClosing r = eqb (code r % 16777216) (textNumber "990")
+
+-- the lines that stand before and after all blocks' data: 0000, 9990 and 9999
+abbrev pub row0000 : ℕ
+row0000 = 0
+
+abbrev pub row9990 : ℕ
+row9990 = rowCount - 2
+
+abbrev pub row9999 : ℕ
+row9999 = rowCount - 1
+
+-- the last of the first n rows that passes the test
+unfoldable pub lastAmong : (ℕ → Bool) → ℕ → ℕ
+lastAmong test zero = none
+lastAmong test (suc n) = pick (test n) n (lastAmong test n)
+
+-- "The parent of a row of level 2 or more is the last row above it, in the same block, whose level is one less"
+unfoldable pub parent : ℕ → ℕ
+parent r = pick (leb 2 (level r)) (lastAmong (λ k. eqb (block k) (block r) && eqb (suc (level k)) (level r)) r) none
+
+-- the opening of a row's block
+unfoldable pub opening : ℕ → ℕ
+opening r = lastAmong (λ k. eqb (block k) (block r) && isOpening k) r
+
+-- the row of a code; none where no row has it
+unfoldable pub rowFrom : ℕ → ℕ → List Listed → ℕ
+rowFrom c i [] = none
+rowFrom c i (l ∷ ls) = let rest = rowFrom c (suc i) ls in pick (eqb (textNumber (l .code)) c) i rest
+
+unfoldable pub rowOfCode : ℕ → ℕ
+rowOfCode c = rowFrom c 0 rowTable

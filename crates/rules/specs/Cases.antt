@@ -1,0 +1,55 @@
+-- 01, "Both sides of each rule": the cases marked *, each a file and the answer to finish.
+use mathlib.Core.List.{List, [], _∷_, _++_}
+use Prim.Native.Nat.{ℕ}
+use Prim.Native.String.{String}
+use Rattle.layout.specs.Text.{bytes}
+use Rattle.rules.specs.Verdict.{Verdict, accepted, refused}
+
+pub record Case : Type 0 where
+  pub file : List ℕ
+  pub answer : Verdict
+
+-- the bytes of texts, joined; a line of a file has its CR LF
+unfoldable pub joined : List String → List ℕ
+joined [] = []
+joined (t ∷ ts) = bytes t ++ joined ts
+
+abbrev case : List String → Verdict → Case
+case file answer = record { file = joined file; answer = answer }
+
+-- "Base" is the file of "The checking program": its first line, and the others
+abbrev first : String
+first = "|0000|LFPD|01012012|31012012|Loja Um|||||||||||Brasil|||||\r\n"
+
+abbrev closing0 : List String
+closing0 = "|0990|3|\r\n" ∷ "|9001|1|\r\n" ∷ "|9990|3|\r\n" ∷ "|9999|6|\r\n" ∷ []
+
+abbrev closing9 : List String
+closing9 = "|9001|1|\r\n" ∷ "|9990|3|\r\n" ∷ "|9999|6|\r\n" ∷ []
+
+-- number, line, field, lines ended, bytes judged; the first line has 60 bytes, each other line of Base 10
+unfoldable pub cases : List Case
+cases =
+    -- Base: accepted
+    case (first ∷ "|0001|1|\r\n" ∷ closing0) (accepted 6 110) ∷
+    -- no bytes: 14, line 1
+    case [] (refused 14 1 0 0 0) ∷
+    -- 0990 saying 2: 13, line 3, field 2; saying 0003: accepted
+    case (first ∷ "|0001|1|\r\n" ∷ "|0990|2|\r\n" ∷ closing9) (refused 13 3 2 2 78) ∷
+    case (first ∷ "|0001|1|\r\n" ∷ "|0990|0003|\r\n" ∷ closing9) (accepted 6 113) ∷
+    -- opening 0: 5, line 3; 0025 after opening 1: 5, line 3
+    case (first ∷ "|0001|0|\r\n" ∷ closing0) (refused 5 3 1 2 76) ∷
+    case (first ∷ "|0001|1|\r\n" ∷ "|0025|A|B|\r\n" ∷ closing0) (refused 5 3 1 2 76) ∷
+    -- as line 2: CR LF for field 2: 7; one bar more: 8, field 3; no last bar: 2, field 2; no CR: 9
+    case (first ∷ "|0001|\r\n" ∷ closing0) (refused 7 2 2 1 67) ∷
+    case (first ∷ "|0001|1||\r\n" ∷ closing0) (refused 8 2 3 1 69) ∷
+    case (first ∷ "|0001|1\r\n" ∷ closing0) (refused 2 2 2 1 68) ∷
+    case (first ∷ "|0001|1|\n" ∷ closing0) (refused 9 2 0 1 69) ∷
+    -- 0175 right after opening 0: 4
+    case (first ∷ "|0001|0|\r\n" ∷ "|0175||||||||||\r\n" ∷ closing0) (refused 4 3 1 2 76) ∷
+    -- 29022012 in field 3: accepted; 29022011: 12
+    case ("|0000|LFPD|29022012|31012012|Loja Um|||||||||||Brasil|||||\r\n" ∷ "|0001|1|\r\n" ∷ closing0) (accepted 6 110) ∷
+    case ("|0000|LFPD|29022011|31012012|Loja Um|||||||||||Brasil|||||\r\n" ∷ "|0001|1|\r\n" ∷ closing0) (refused 12 1 3 0 20) ∷
+    -- Base plus byte 26: 15, line 7
+    case (first ∷ "|0001|1|\r\n" ∷ closing0 ++ "\u{1a}" ∷ []) (refused 15 7 0 6 111) ∷
+    []

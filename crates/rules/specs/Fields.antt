@@ -1,0 +1,100 @@
+-- 01, "Fields of the typed lines": what a field of each kind may hold. A word is a field's bytes, the latest first.
+use mathlib.Core.Bool.{Bool, true, false, not, _&&_, _||_}
+use mathlib.Core.List.{List, [], _∷_, reverse}
+use Prim.Native.Nat.{ℕ, zero, suc, _+_, _-_, _*_, _/_, _%_}
+use Prim.Native.String.{String}
+use lib.Dec.{eqb, leb, ltb}
+use lib.ListN.{length, getD, take, drop}
+use Rattle.layout.specs.Pick.{pick}
+use Rattle.layout.specs.Text.{bytes}
+use Rattle.layout.specs.Kinds.{Kind, codeField, free, C, N, N-, decimals, date, lfpd, brasil, opens, count}
+use Rattle.rules.specs.Bytes.{empty}
+
+unfoldable pub isDigit : ℕ → Bool
+isDigit b = leb 48 b && leb b 57
+
+unfoldable pub allDigits : List ℕ → Bool
+allDigits [] = true
+allDigits (b ∷ w) = isDigit b && allDigits w
+
+-- "The value counts: leading zeros are allowed, digits without limit"
+unfoldable pub value : List ℕ → ℕ
+value [] = 0
+value (b ∷ w) = value w * 10 + (b - 48)
+
+-- "N with d decimals: one digit or more, a comma, exactly d digits": the latest d bytes are the decimals
+abbrev pub comma : ℕ
+comma = 44
+
+unfoldable pub isDecimal : ℕ → List ℕ → Bool
+isDecimal d w =
+    allDigits (take d w) && eqb (getD w d 0) comma && not (empty (drop (suc d) w)) && allDigits (drop (suc d) w)
+
+-- "a Gregorian date ddmmyyyy, year 1900 to 2099"
+unfoldable pub isLeapYear : ℕ → Bool
+isLeapYear y = eqb (y % 4) 0 && not (eqb (y % 100) 0) || eqb (y % 400) 0
+
+-- the days of a month; of a month that is not there none
+unfoldable pub daysOf : ℕ → ℕ → ℕ
+daysOf y m =
+    pick (eqb m 2) (pick (isLeapYear y) 29 28)
+    (getD (0 ∷ 31 ∷ 28 ∷ 31 ∷ 30 ∷ 31 ∷ 30 ∷ 31 ∷ 31 ∷ 30 ∷ 31 ∷ 30 ∷ 31 ∷ []) m 0)
+
+-- of a word of eight digits: its value is ddmmyyyy
+unfoldable pub isDate : List ℕ → Bool
+isDate w =
+    let year = value w % 10000 in
+    let month = value w / 10000 % 100 in
+    let day = value w / 1000000 in
+    leb 1 day && leb day (daysOf year month) && leb 1900 year && leb year 2099
+
+-- "Fixed texts"
+unfoldable pub same : List ℕ → List ℕ → Bool
+same [] [] = true
+same [] (c ∷ cs) = false
+same (b ∷ bs) [] = false
+same (b ∷ bs) (c ∷ cs) = eqb b c && same bs cs
+
+unfoldable pub isText : String → List ℕ → Bool
+isText text w = same w (reverse (bytes text))
+
+-- what the bar after a field asks of it
+pub record Form : Type 0 where
+  -- rule 10, "wrong characters or decimals", where the field is not empty
+  pub characters : List ℕ → Bool
+  -- rule 11, "wrong size", where the field is not empty: asked of the number of bytes
+  pub size : ℕ → Bool
+  -- rule 12, "not the fixed text; field 2 of an opening not 0 or 1; no such date"
+  pub content : List ℕ → Bool
+  -- rule 13, "count empty or untrue"
+  pub isCount : Bool
+
+abbrev any : {A : Type 0} → A → Bool
+any x = true
+
+abbrev atMost : ℕ → ℕ → Bool
+atMost s n = leb n s
+
+abbrev exactly : ℕ → ℕ → Bool
+exactly s n = eqb n s
+
+abbrev form : (List ℕ → Bool) → (ℕ → Bool) → (List ℕ → Bool) → Form
+form characters size content = record { characters = characters; size = size; content = content; isCount = false }
+
+-- a date is N of size 8, field 2 of an opening N of size 1, the fixed texts C of sizes 4 and 6; counts are digits of any length
+unfoldable pub formOf : Kind → Form
+formOf codeField = form any any any
+formOf free = form any any any
+formOf (C s) = form any (atMost s) any
+formOf (N s) = form allDigits (exactly s) any
+formOf N- = form allDigits any any
+formOf (decimals d) = form (isDecimal d) any any
+formOf date = form allDigits (exactly 8) (λ w. empty w || isDate w)
+formOf lfpd = form any (atMost 4) (isText "LFPD")
+formOf brasil = form any (atMost 6) (isText "Brasil")
+formOf opens = form allDigits (exactly 1) (λ w. isText "0" w || isText "1" w)
+formOf count = record { characters = allDigits; size = any; content = any; isCount = true }
+
+-- a count states the number n
+unfoldable pub states : ℕ → List ℕ → Bool
+states n w = not (empty w) && eqb (value w) n

@@ -1,0 +1,158 @@
+-- 01, "What a refusal says": rules 1 to 13, 15 and 16, one by one, and which of them a byte breaks.
+-- `seen` has the bytes received before the byte b, the latest first.
+use mathlib.Core.Bool.{Bool, true, false, not, _&&_, _||_}
+use mathlib.Core.List.{List, [], _∷_}
+use Prim.Native.Nat.{ℕ, zero, suc}
+use Prim.Native.String.{String}
+use lib.Dec.{eqb, leb, ltb}
+use lib.ListN.{length}
+use Rattle.layout.specs.Pick.{pick}
+use Rattle.layout.specs.Rows.{none, fields, isOpening, isClosing, row9999}
+use Rattle.layout.specs.Kinds.{kind}
+use Rattle.rules.specs.Bytes.{bar, LF, lines, rows, rowAtHand, rowOf, rowOfWord, bars, word, field, empty, isEndByte}
+use Rattle.rules.specs.Order.{canStand, hasRoom, isData}
+use Rattle.rules.specs.Counts.{due}
+use Rattle.rules.specs.Fields.{Form, formOf, isText, states}
+
+-- Where the byte stands: in a field of its line (field 1 until the row is known), or past the last field.
+unfoldable pub inField : List ℕ → Bool
+inField seen = ltb 0 (bars seen) && leb (bars seen) (fields (rowAtHand seen))
+
+unfoldable pub pastFields : List ℕ → Bool
+pastFields seen = ltb (fields (rowAtHand seen)) (bars seen)
+
+-- the bar after field 1, and the row that its code gives the line
+unfoldable pub isCodeBar : List ℕ → ℕ → Bool
+isCodeBar seen b = eqb (bars seen) 1 && eqb b bar
+
+unfoldable pub rowToBe : List ℕ → ℕ
+rowToBe seen = rowOfWord (word seen)
+
+-- the bar after a field, and what it asks of the field
+unfoldable pub isFieldBar : List ℕ → ℕ → Bool
+isFieldBar seen b = inField seen && eqb b bar
+
+unfoldable pub formAtHand : List ℕ → Form
+formAtHand seen = formOf (kind (rowAtHand seen) (bars seen))
+
+-- 1: "first byte of a line is not a bar"
+unfoldable pub breaks1 : List ℕ → ℕ → Bool
+breaks1 seen b = eqb (bars seen) 0 && not (eqb b bar)
+
+-- 7: "CR or LF right after a bar, fields still to come"
+unfoldable pub breaks7 : List ℕ → ℕ → Bool
+breaks7 seen b = inField seen && empty (word seen) && isEndByte b
+
+-- 2: "byte 0 to 31 in a field, unless 7 applies"
+unfoldable pub breaks2 : List ℕ → ℕ → Bool
+breaks2 seen b = inField seen && ltb b 32 && not (breaks7 seen b)
+
+-- 3: "bar after field 1: no row has this code"
+unfoldable pub breaks3 : List ℕ → ℕ → Bool
+breaks3 seen b = isCodeBar seen b && eqb (rowToBe seen) none
+
+-- 4: "the same bar: line cannot stand here"
+unfoldable pub breaks4 : List ℕ → ℕ → Bool
+breaks4 seen b = isCodeBar seen b && not (canStand (rowToBe seen) (rows seen))
+
+-- 5: "the same bar: data line after opening 1, or closing right after opening 0"
+-- (No data line passes after an opening 1, so a data line that comes after one comes right after it.)
+unfoldable pub openedBy : String → List (List ℕ) → Bool
+openedBy text [] = false
+openedBy text (line ∷ before) = isOpening (rowOf line) && isText text (field 2 line)
+
+unfoldable pub breaks5 : List ℕ → ℕ → Bool
+breaks5 seen b =
+    isCodeBar seen b
+    && (isData (rowToBe seen) && openedBy "1" (lines seen) || isClosing (rowToBe seen) && openedBy "0" (lines seen))
+
+-- 6: "the same bar: one more than the row allows"
+unfoldable pub breaks6 : List ℕ → ℕ → Bool
+breaks6 seen b = isCodeBar seen b && not (hasRoom (rowToBe seen) (rows seen))
+
+-- 8: "after the last field, a byte other than CR or LF (then never 2)"
+unfoldable pub breaks8 : List ℕ → ℕ → Bool
+breaks8 seen b = pastFields seen && empty (word seen) && not (isEndByte b)
+
+-- 9: "LF right after the last field, or CR followed by another byte than LF"
+unfoldable pub breaks9 : List ℕ → ℕ → Bool
+breaks9 seen b = pastFields seen && pick (empty (word seen)) (eqb b LF) (not (eqb b LF))
+
+-- 10: "bar after an N field: wrong characters or decimals"; "An empty field breaks neither 10 nor 11"
+unfoldable pub breaks10 : List ℕ → ℕ → Bool
+breaks10 seen b = isFieldBar seen b && not (empty (word seen)) && not (formAtHand seen .characters (word seen))
+
+-- 11: "bar: wrong size"
+unfoldable pub breaks11 : List ℕ → ℕ → Bool
+breaks11 seen b = isFieldBar seen b && not (empty (word seen)) && not (formAtHand seen .size (length (word seen)))
+
+-- 12: "bar: not the fixed text; field 2 of an opening not 0 or 1; no such date"
+unfoldable pub breaks12 : List ℕ → ℕ → Bool
+breaks12 seen b = isFieldBar seen b && not (formAtHand seen .content (word seen))
+
+-- 13: "bar: count empty or untrue"
+unfoldable pub breaks13 : List ℕ → ℕ → Bool
+breaks13 seen b = isFieldBar seen b && formAtHand seen .isCount && not (states (due (rowAtHand seen) (rows seen)) (word seen))
+
+-- 15: "a byte after 9999's LF"
+unfoldable pub isLastLine : List (List ℕ) → Bool
+isLastLine [] = false
+isLastLine (line ∷ before) = eqb (rowOf line) row9999
+
+unfoldable pub finished : List ℕ → Bool
+finished seen = isLastLine (lines seen)
+
+-- 16: "byte number 4,294,967,296"
+abbrev pub byteLimit : ℕ
+byteLimit = 4294967295
+
+unfoldable pub full : List ℕ → Bool
+full seen = leb byteLimit (length seen)
+
+-- The table of 01, without 14 to 19: a rule's number, when it is broken, and the field that the refusal names.
+pub record Rule : Type 0 where
+  pub number : ℕ
+  pub broken : List ℕ → ℕ → Bool
+  pub names : List ℕ → ℕ
+
+abbrev rule : ℕ → (List ℕ → ℕ → Bool) → (List ℕ → ℕ) → Rule
+rule n b f = record { number = n; broken = b; names = f }
+
+abbrev noField : List ℕ → ℕ
+noField seen = 0
+
+unfoldable pub rules : List Rule
+rules =
+    rule 1 breaks1 noField ∷
+    rule 2 breaks2 bars ∷
+    rule 3 breaks3 bars ∷
+    rule 4 breaks4 bars ∷
+    rule 5 breaks5 bars ∷
+    rule 6 breaks6 bars ∷
+    rule 7 breaks7 bars ∷
+    rule 8 breaks8 bars ∷
+    rule 9 breaks9 noField ∷
+    rule 10 breaks10 bars ∷
+    rule 11 breaks11 bars ∷
+    rule 12 breaks12 bars ∷
+    rule 13 breaks13 bars ∷
+    []
+
+-- what a byte breaks: nothing, or a rule by its number, with the field
+pub data Fault : Type 0 where
+  clear : Fault
+  breaks : ℕ → ℕ → Fault
+
+-- "if it breaks several, the lowest number does": the first of the rules, which stand in this order
+unfoldable pub firstBroken : List Rule → List ℕ → ℕ → Fault
+firstBroken [] seen b = clear
+firstBroken (r ∷ rs) seen b = let rest = firstBroken rs seen b in pick (r .broken seen b) (breaks (r .number) (r .names seen)) rest
+
+-- "except that 16 goes before all. After 9999's LF a byte gets only 15 or 16."
+unfoldable pub faultBy : List Rule → List ℕ → ℕ → Fault
+faultBy held seen b =
+    let rest = firstBroken held seen b in
+    pick (full seen) (breaks 16 0) (pick (finished seen) (breaks 15 0) rest)
+
+unfoldable pub fault : List ℕ → ℕ → Fault
+fault seen b = faultBy rules seen b
