@@ -40,12 +40,12 @@ daysOf y m =
     pick (eqb m 2) (pick (isLeapYear y) 29 28)
     (getD (0 ∷ 31 ∷ 28 ∷ 31 ∷ 30 ∷ 31 ∷ 30 ∷ 31 ∷ 31 ∷ 30 ∷ 31 ∷ 30 ∷ 31 ∷ []) m 0)
 
--- of a word of eight digits: its value is ddmmyyyy
-unfoldable pub isDate : List ℕ → Bool
-isDate w =
-    let year = value w % 10000 in
-    let month = value w / 10000 % 100 in
-    let day = value w / 1000000 in
+-- the number ddmmyyyy is a date
+unfoldable pub isDate : ℕ → Bool
+isDate n =
+    let year = n % 10000 in
+    let month = n / 10000 % 100 in
+    let day = n / 1000000 in
     leb 1 day && leb day (daysOf year month) && leb 1900 year && leb year 2099
 
 -- "Fixed texts"
@@ -89,7 +89,7 @@ formOf (C s) = form any (atMost s) any
 formOf (N s) = form allDigits (exactly s) any
 formOf N- = form allDigits any any
 formOf (decimals d) = form (isDecimal d) any any
-formOf date = form allDigits (exactly 8) (λ w. empty w || isDate w)
+formOf date = form allDigits (exactly 8) (λ w. empty w || isDate (value w))
 formOf lfpd = form any (atMost 4) (isText "LFPD")
 formOf brasil = form any (atMost 6) (isText "Brasil")
 formOf opens = form allDigits (exactly 1) (λ w. isText "0" w || isText "1" w)
