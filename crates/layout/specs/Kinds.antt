@@ -1,13 +1,13 @@
 -- 01, "Fields of the typed lines": the kind of each field, from the sheets of Appendix B.
-use mathlib.Core.Bool.{Bool, true, false, _||_}
-use mathlib.Core.List.{List, [], _∷_, _++_, map}
-use Prim.Native.Nat.{ℕ, zero, suc, _+_, _-_, _*_}
+use mathlib.Core.Bool.{_||_}
+use mathlib.Core.List.{List, [], _∷_}
+use Prim.Native.Nat.{ℕ, zero, suc, _+_, _-_}
 use Prim.Native.String.{String}
 use lib.Dec.{eqb}
-use lib.ListN.{getD, length, replicate}
+use lib.ListN.{getD, replicate}
 use Rattle.layout.specs.Pick.{pick}
 use Rattle.layout.specs.Text.{textNumber}
-use Rattle.layout.specs.Rows.{code, fields, rowCount, isOpening, isClosing, row9999}
+use Rattle.layout.specs.Rows.{code, fields, isOpening, isClosing, row9999}
 
 pub data Kind : Type 0 where
   -- field 1: it is judged by rules 3 to 6 alone
@@ -74,3 +74,12 @@ kindsOf r =
 -- the kind of a row's field number n, from 1; past the row's fields none is to come
 unfoldable pub kind : ℕ → ℕ → Kind
 kind r n = getD (kindsOf r) (n - 1) free
+
+-- "all 995 fields of the 98 rows have a kind"
+abbrev pub fieldCount : ℕ
+fieldCount = 995
+
+-- row starts: the number of the fields of the rows before row r
+unfoldable pub start : ℕ → ℕ
+start zero = 0
+start (suc r) = start r + fields r

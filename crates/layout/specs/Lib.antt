@@ -1,5 +1,6 @@
 pub mod Pick
+pub mod Lists
 pub mod Text
 pub mod Rows
-pub mod Packed
 pub mod Kinds
+pub mod Packed

@@ -1,5 +1,5 @@
 -- 01, "The 98 rows", as data in 01's order, and what the table says of a row. A row goes by its number, from 0.
-use mathlib.Core.Bool.{Bool, true, false, _&&_}
+use mathlib.Core.Bool.{Bool, _&&_}
 use mathlib.Core.List.{List, [], _∷_, _++_}
 use Prim.Native.Nat.{ℕ, zero, suc, _-_, _/_, _%_}
 use Prim.Native.String.{String}

@@ -1,2 +1,5 @@
 // The layout as data: the rows, their parents, the kinds of their fields, and the row of a code.
+pub mod codes;
+pub mod kinds;
+pub mod parents;
 pub mod rows;

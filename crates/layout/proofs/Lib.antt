@@ -1,0 +1,11 @@
+pub mod Below
+pub mod TabulateLaws
+pub mod ListLaws
+pub mod RowLaws
+pub mod ParentLaws
+pub mod BlockLaws
+pub mod CodeLaws
+pub mod KindLaws
+pub mod PackedLaws
+pub mod SlotLaws
+pub mod RoleLaws

@@ -1,0 +1,16 @@
+use borrow.Author.Needs.{needs}
+use Rattle.layout.proofs.PackedLaws.{level-part}
+use Rattle.layout.proofs.rows.level_at.Statement.{statement}
+use Rattle.layout.proofs.rows.level_at.Tie as tie
+
+mul-result : tie.Need-mul-result
+mul-result c = search needs
+
+element-copy-out-result : tie.Need-element-copy-out-result
+element-copy-out-result c = search needs
+
+returns : tie.Need-returns
+returns c = rw (c .before .pre .0) (level-part (c .before .args .r) (c .before .pre .1))
+
+pub level-at-spec : {M : Type 1} → statement M
+level-at-spec = tie.close (tie.spec mul-result element-copy-out-result returns)

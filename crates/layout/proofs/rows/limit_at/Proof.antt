@@ -1,0 +1,39 @@
+use borrow.Author.Needs.{needs}
+use borrow.Author.Tests.{eq-eqb, ne-eqb}
+use Rattle.layout.specs.Rows.{limit}
+use Rattle.layout.proofs.rows.limit_at.Statement.{statement}
+use Rattle.layout.proofs.rows.limit_at.Tie as tie
+
+occurrence-at-requires : tie.Need-occurrence-at-requires
+occurrence-at-requires c κs = search needs
+
+returns : tie.Need-returns
+unfolding limit
+returns c = rw (← c .before .occurrence-at .ensures, ne-eqb _ _ (c .if1 .taken))
+
+level-at-requires : tie.Need-level-at-requires
+level-at-requires c κs = search needs
+
+returns-2 : tie.Need-returns-2
+unfolding limit
+returns-2 c =
+    rw (
+      ← c .before .before .before .occurrence-at .ensures,
+      eq-eqb _ _ (c .before .before .if1 .left),
+      ← c .before .level-at .ensures,
+      eq-eqb _ _ (c .if2 .taken),
+    )
+
+returns-3 : tie.Need-returns-3
+unfolding limit
+returns-3 c =
+    rw (
+      ← c .before .before .before .occurrence-at .ensures,
+      eq-eqb _ _ (c .before .before .if1 .left),
+      ← c .before .level-at .ensures,
+      ne-eqb _ _ (c .if2 .left),
+    )
+
+pub limit-at-spec : {M : Type 1} → statement M
+limit-at-spec =
+    tie.close (tie.spec occurrence-at-requires returns level-at-requires returns-2 returns-3)

@@ -1,0 +1,13 @@
+-- Lists by their entries, and by their parts.
+use mathlib.Core.List.{List, [], _∷_, _++_}
+use Prim.Native.Nat.{ℕ, zero, suc}
+
+-- f at each number below n, in order
+unfoldable pub tabulate : {A : Type 0} → ℕ → (ℕ → A) → List A
+tabulate zero f = []
+tabulate (suc n) f = f 0 ∷ tabulate n (λ k. f (suc k))
+
+-- the parts of the numbers below n, joined in order
+unfoldable pub joined : {A : Type 0} → ℕ → (ℕ → List A) → List A
+joined zero part = []
+joined (suc n) part = joined n part ++ part n
