@@ -1,1 +1,15 @@
+pub mod TestLaws
+pub mod Stood
+pub mod AllRows
+pub mod CountLaws
+pub mod OccurrenceLaws
+pub mod StandLaws
+pub mod OpenLaws
+pub mod FollowLaws
+pub mod BlockLaws
+pub mod ByteLaws
+pub mod FaultLaws
+pub mod CleanLaws
+pub mod SoundLaws
+pub mod StatedLaws
 pub mod StarredCases

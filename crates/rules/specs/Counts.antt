@@ -5,6 +5,7 @@ use Prim.Native.Nat.{ℕ, zero, suc, _+_}
 use lib.Dec.{eqb}
 use lib.ListN.{length}
 use Rattle.layout.specs.Pick.{pick}
+use Rattle.layout.specs.Lists.{tabulate}
 use Rattle.layout.specs.Rows.{rowCount, block, row9999}
 
 -- the lines of row r
@@ -23,11 +24,6 @@ unfoldable pub due : ℕ → List ℕ → ℕ
 due r before =
     pick (eqb r row9999) (suc (length before))
     (suc (linesOfBlock (block r) before) + pick (eqb (block r) (block row9999)) 1 0)
-
--- f at each number below n, in order
-unfoldable pub tabulate : ℕ → (ℕ → ℕ) → List ℕ
-tabulate zero f = []
-tabulate (suc n) f = f 0 ∷ tabulate n (λ k. f (suc k))
 
 -- "a count of lines for each of the 98 rows", in row order
 unfoldable pub countsOfRows : List ℕ → List ℕ

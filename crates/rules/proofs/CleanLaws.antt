@@ -1,0 +1,170 @@
+-- Clean histories, in which no byte breaks a rule, and refused ones: what is clean, what a refusal says, what stands and is counted.
+use mathlib.Core.Path.{_≡_, _∙_, refl, sym}
+use mathlib.Core.Bool.{true, false}
+use mathlib.Core.List.{List, [], _∷_}
+use mathlib.Core.Logic.{_⊎_, inl, inr, ⊎-elim}
+use Prim.Native.Nat.{ℕ, suc, _≤_, _<_}
+use native.Mathlib.Omega.{arith}
+use lib.ListN.{length}
+use borrow.Author.Tests.{leb-false}
+use Rattle.layout.specs.Pick.{pick}
+use Rattle.rules.specs.Bytes.{cut, lines, rows}
+use Rattle.rules.specs.Counts.{countsOfRows}
+use Rattle.rules.specs.Rules.{Fault, clear, breaks, rules, firstBroken, faultBy, fault, finished, full, byteLimit}
+use Rattle.rules.specs.Verdict.{stillOpen, refused, accepted, judged, verdictAfter, verdict, stands, standing, counts, finishAfter, finishVerdict}
+use Rattle.rules.proofs.TestLaws.{split, pick-clear}
+
+abbrev pub Clean : List ℕ → Type 0
+Clean seen = verdict seen ≡ stillOpen (length (lines seen)) (length seen)
+
+pub clean-start : Clean []
+unfolding verdict lines cut
+clean-start = refl
+
+module _ (seen : List ℕ) (b : ℕ) where
+  -- one more byte after a clean history, and after a refused one
+  pub verdict-next : Clean seen → verdict (b ∷ seen) ≡ judged (fault seen b) seen b
+  unfolding verdict verdictAfter
+  verdict-next c = rw c
+
+  pub verdict-stays : (n line f l k : ℕ) → verdict seen ≡ refused n line f l k → verdict (b ∷ seen) ≡ refused n line f l k
+  unfolding verdict verdictAfter
+  verdict-stays n line f l k e = rw e
+
+  pub clean-next : Clean seen → fault seen b ≡ clear → Clean (b ∷ seen)
+  unfolding judged
+  clean-next c e = verdict-next c ∙ rw e
+
+  pub verdict-broken : Clean seen → (n f : ℕ) → fault seen b ≡ breaks n f
+      → verdict (b ∷ seen) ≡ refused n (suc (length (lines seen))) f (length (lines seen)) (suc (length seen))
+  unfolding judged
+  verdict-broken c n f e = verdict-next c ∙ rw e
+
+  -- the byte that is refused, and those after it, do not stand
+  pub standing-refused : (n line f l k : ℕ) → verdict (b ∷ seen) ≡ refused n line f l k → standing (b ∷ seen) ≡ standing seen
+  unfolding standing stands
+  standing-refused n line f l k e = rw e
+
+  pub counts-refused : (n line f l k : ℕ) → verdict (b ∷ seen) ≡ refused n line f l k → counts (b ∷ seen) ≡ counts seen
+  unfolding counts
+  counts-refused n line f l k e = rw (standing-refused n line f l k e)
+
+-- the bytes of a clean history stand
+pub standing-clean : (seen : List ℕ) → Clean seen → standing seen ≡ seen
+unfolding standing stands
+standing-clean [] c = refl
+standing-clean (b ∷ seen) c = rw c
+
+pub counts-clean : (seen : List ℕ) → Clean seen → counts seen ≡ countsOfRows (rows seen)
+unfolding counts
+counts-clean seen c = rw (standing-clean seen c)
+
+-- A refused history: the clean one before the first byte that breaks a rule, and what that byte breaks.
+pub record Refused (seen : List ℕ) : Type 0 where
+  pub before : List ℕ
+  pub byte : ℕ
+  pub number : ℕ
+  pub named : ℕ
+  pub clean : Clean before
+  pub broken : fault before byte ≡ breaks number named
+  pub says : verdict seen ≡ refused number (suc (length (lines before))) named (length (lines before)) (suc (length before))
+  pub left : standing seen ≡ before
+
+refused-now : (seen : List ℕ) (b n f : ℕ) → Clean seen → fault seen b ≡ breaks n f → Refused (b ∷ seen)
+refused-now seen b n f c e =
+    let v = verdict-broken seen b c n f e in
+    record {
+      before = seen;
+      byte = b;
+      number = n;
+      named = f;
+      clean = c;
+      broken = e;
+      says = v;
+      left = standing-refused seen b n _ f _ _ v ∙ standing-clean seen c;
+    }
+
+refused-stays : (seen : List ℕ) (b : ℕ) → Refused seen → Refused (b ∷ seen)
+refused-stays seen b r =
+    let v = verdict-stays seen b (r .number) _ (r .named) _ _ (r .says) in
+    record {
+      before = r .before;
+      byte = r .byte;
+      number = r .number;
+      named = r .named;
+      clean = r .clean;
+      broken = r .broken;
+      says = v;
+      left = standing-refused seen b (r .number) _ (r .named) _ _ v ∙ r .left;
+    }
+
+judge : (seen : List ℕ) (b : ℕ) (f : Fault) → fault seen b ≡ f → Clean seen → Clean (b ∷ seen) ⊎ Refused (b ∷ seen)
+judge seen b clear e c = inl (clean-next seen b c e)
+judge seen b (breaks n f) e c = inr (refused-now seen b n f c e)
+
+pub clean-or-refused : (seen : List ℕ) → Clean seen ⊎ Refused seen
+clean-or-refused [] = inl clean-start
+clean-or-refused (b ∷ seen) = ⊎-elim (judge seen b (fault seen b) refl) (λ r. inr (refused-stays seen b r)) (clean-or-refused seen)
+
+-- no history is both
+pub not-both : {X : Type 0} (seen : List ℕ) → Clean seen → Refused seen → X
+not-both seen c r = absurd (let e = r .says in let z : _≡_ {A = ℕ} 0 1 = cc in omega arith)
+
+pub counts-left : (seen : List ℕ) (r : Refused seen) → counts seen ≡ countsOfRows (rows (r .before))
+unfolding counts
+counts-left seen r = rw (r .left)
+
+-- A clean history was clean before its last byte, which breaks no rule.
+module _ (seen : List ℕ) (b : ℕ) (c : Clean (b ∷ seen)) where
+  pub clean-before : Clean seen
+  clean-before = ⊎-elim (λ d. d) (λ r. not-both (b ∷ seen) c (refused-stays seen b r)) (clean-or-refused seen)
+
+  pub clean-clear : fault seen b ≡ clear
+  clean-clear = go (fault seen b) refl
+    where
+      go : (f : Fault) → fault seen b ≡ f → fault seen b ≡ clear
+      go clear e = e
+      go (breaks n f) e = not-both (b ∷ seen) c (refused-now seen b n f clean-before e)
+
+-- a byte that breaks no rule
+module _ (seen : List ℕ) (b : ℕ) (e : fault seen b ≡ clear) where
+  clear-parts : (full seen ≡ false) × (finished seen ≡ false) × (firstBroken rules seen b ≡ clear)
+  unfolding fault faultBy
+  clear-parts =
+      let a = pick-clear (full seen) 16 0 _ e in
+      let d = pick-clear (finished seen) 15 0 _ (a .1) in
+      (a .0, d .0, d .1)
+
+  pub clear-room : length seen < byteLimit
+  unfolding full
+  clear-room = leb-false byteLimit (length seen) (clear-parts .0)
+
+  pub clear-unfinished : finished seen ≡ false
+  clear-unfinished = clear-parts .1
+
+  pub clear-rules : firstBroken rules seen b ≡ clear
+  clear-rules = clear-parts .2
+
+pub clean-short : (seen : List ℕ) → Clean seen → length seen ≤ byteLimit
+clean-short [] c = omega arith
+clean-short (b ∷ seen) c = clear-room seen b (clean-clear seen b c)
+
+-- the answer of finish
+pub finish-clean : (seen : List ℕ) → Clean seen
+    → finishVerdict seen
+    ≡ pick (finished seen) (accepted (length (lines seen)) (length seen)) (refused 14 (suc (length (lines seen))) 0 (length (lines seen)) (length seen))
+unfolding finishVerdict finishAfter
+finish-clean seen c = rw c
+
+pub finish-refused : (seen : List ℕ) (n line f l k : ℕ) → verdict seen ≡ refused n line f l k → finishVerdict seen ≡ refused n line f l k
+unfolding finishVerdict finishAfter
+finish-refused seen n line f l k e = rw e
+
+pub accepted-clean : (seen : List ℕ) (l n : ℕ) → finishVerdict seen ≡ accepted l n → Clean seen × (finished seen ≡ true)
+accepted-clean seen l n e =
+    ⊎-elim (λ c. (c, split (finished seen) (λ t. t) (λ t. never (rw (finish-clean seen c, t) at e))))
+    (λ r. never (sym (finish-refused seen _ _ _ _ _ (r .says)) ∙ e))
+    (clean-or-refused seen)
+  where
+    never : {X : Type 0} {r line f k m : ℕ} → refused r line f k m ≡ accepted l n → X
+    never q = absurd (let z : _≡_ {A = ℕ} 0 1 = cc in omega arith)

