@@ -9,6 +9,7 @@ use Rattle.layout.specs.Rows.{rowCount}
 use Rattle.layout.specs.Lists.{tabulate}
 use Rattle.layout.proofs.TabulateLaws.{tabulate-length, tabulate-at, tabulate-same, tabulate-set}
 use Rattle.rules.specs.Counts.{linesOfRow, countsOfRows}
+use Rattle.rules.specs.Totals.{sum}
 use Rattle.rules.proofs.AllRows.{AllRows}
 
 -- the lines of row k after one more line
@@ -34,10 +35,6 @@ unfolding countsOfRows
 counts-line rows r h =
     sym (tabulate-set rowCount (λ k. linesOfRow k rows) (λ k. linesOfRow k (r ∷ rows)) r (suc (linesOfRow r rows)) h
     (lines-here r r rows refl) (λ k d. lines-past k r rows d))
-
-unfoldable pub sum : List ℕ → ℕ
-sum [] = 0
-sum (x ∷ xs) = x + sum xs
 
 sum-set : (xs : List ℕ) (k : ℕ) → k < length xs → sum (set xs k (suc (getD xs k 0))) ≡ suc (sum xs)
 unfolding sum

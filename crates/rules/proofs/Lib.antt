@@ -12,4 +12,5 @@ pub mod FaultLaws
 pub mod CleanLaws
 pub mod SoundLaws
 pub mod StatedLaws
+pub mod TotalLaws
 pub mod StarredCases

@@ -4,4 +4,5 @@ pub mod Counts
 pub mod Fields
 pub mod Rules
 pub mod Verdict
+pub mod Totals
 pub mod Cases
