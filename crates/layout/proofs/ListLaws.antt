@@ -1,11 +1,11 @@
 -- The entries of lists that are given by their parts.
-use mathlib.Core.Path.{_≡_, refl, sym, _∙_}
+use mathlib.Core.Path.{_≡_, refl, ap, _∙_}
 use mathlib.Core.List.{List, [], _∷_, _++_, map}
 use mathlib.Core.Logic.{⊎-elim}
-use Prim.Native.Nat.{ℕ, zero, suc, _+_, _<_, _≤_}
-use native.Mathlib.Nat.{not-suc-le-zero, le-of-suc-le-suc, eq-or-lt-of-le}
+use Prim.Native.Nat.{ℕ, zero, suc, _+_, _-_, _<_, _≤_, suc-le-suc}
+use native.Mathlib.Nat.{not-suc-le-zero, le-of-suc-le-suc, eq-or-lt-of-le, le-refl, le-step}
 use native.Mathlib.Omega.{arith}
-use lib.ListN.{length, getD, length-append, List·getD-append}
+use lib.ListN.{length, getD, List·getD-append}
 use lib.Seq.{getD-append-add}
 use Rattle.layout.specs.Lists.{joined}
 
@@ -23,32 +23,35 @@ map-at f (x ∷ xs) zero d z h = refl
 map-at f (x ∷ xs) (suc k) d z h = map-at f xs k d z (le-of-suc-le-suc h)
 
 -- parts joined: `start` tells where each of the first n parts begins
-module _ {A : Type 0} (part : ℕ → List A) (start : ℕ → ℕ) (count : ℕ)
-    (first : start 0 ≡ 0) (next : (r : ℕ) → r < count → start (suc r) ≡ start r + length (part r)) where
-  pub joined-length : (n : ℕ) → n ≤ count → length (joined n part) ≡ start n
-  unfolding joined
-  joined-length zero h = sym first
-  joined-length (suc n) h = simp (length-append, joined-length n (omega arith)) (sym (next n h))
+module _ {A : Type 0} where
+  abbrev pub Starts : ℕ → (ℕ → List A) → (ℕ → ℕ) → Type 0
+  Starts n part start = (r : ℕ) → r < n → start (suc r) ≡ start r + length (part r)
 
   -- a part ends before the later ones begin
-  pub part-ends : (n r : ℕ) → n ≤ count → r < n → start r + length (part r) ≤ start n
-  part-ends zero r h l = absurd (not-suc-le-zero l)
-  part-ends (suc n) r h l =
-      let here = next n h in
+  pub part-ends :
+      (n : ℕ) (part : ℕ → List A) (start : ℕ → ℕ) → Starts n part start → (r : ℕ) → r < n → start r + length (part r) ≤ start n
+  part-ends zero part start next r l = absurd (not-suc-le-zero l)
+  part-ends (suc n) part start next r l =
+      let here = next n (le-refl (suc n)) in
       ⊎-elim
       (λ (e : r ≡ n). rw e (omega arith))
-      (λ (l : r < n). let before = part-ends n r (omega arith) l in omega arith)
+      (λ (l : r < n). let before = part-ends n part start (λ q h. next q (le-step h)) r l in omega arith)
       (eq-or-lt-of-le (le-of-suc-le-suc l))
 
+  -- place k of part r is place i of the whole
   pub joined-at :
-      (n r k : ℕ) (d : A) → n ≤ count → r < n → k < length (part r) → getD (joined n part) (start r + k) d ≡ getD (part r) k d
+      (n : ℕ) (part : ℕ → List A) (start : ℕ → ℕ) → Starts n part start → (r k i : ℕ) (d : A)
+      → r < n → k < length (part r) → start 0 + i ≡ start r + k → getD (joined n part) i d ≡ getD (part r) k d
   unfolding joined
-  joined-at zero r k d h l lk = absurd (not-suc-le-zero l)
-  joined-at (suc n) r k d h l lk =
-      let len = joined-length n (omega arith) in
-      ⊎-elim
-      (λ (e : r ≡ n). rw (e, ← len) (getD-append-add (joined n part) (part n) k d))
-      (λ (l : r < n).
-      let ends = part-ends n r (omega arith) l in
-      List·getD-append (joined n part) (part n) d (start r + k) (omega arith) ∙ joined-at n r k d (omega arith) l lk)
-      (eq-or-lt-of-le (le-of-suc-le-suc l))
+  joined-at zero part start next r k i d l lk e = absurd (not-suc-le-zero l)
+  joined-at (suc n) part start next zero k i d l lk e =
+      let same : i ≡ k = omega arith in
+      rw same (List·getD-append (part 0) (joined n (λ j. part (suc j))) d k lk)
+  joined-at (suc n) part start next (suc r) k i d l lk e =
+      let here = next 0 (omega arith) in
+      let past = part-ends (suc r) part start (λ q h. next q (omega arith)) 0 (omega arith) in
+      let j = i - length (part 0) in
+      let later = joined n (λ q. part (suc q)) in
+      let after : i ≡ length (part 0) + j = omega arith in
+      ap (λ (m : ℕ). getD (part 0 ++ later) m d) after ∙ getD-append-add (part 0) later j d
+      ∙ joined-at n (λ q. part (suc q)) (λ q. start (suc q)) (λ q h. next (suc q) (suc-le-suc h)) r k j d (le-of-suc-le-suc l) lk (omega arith)

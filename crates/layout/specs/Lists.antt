@@ -10,4 +10,4 @@ tabulate (suc n) f = f 0 ∷ tabulate n (λ k. f (suc k))
 -- the parts of the numbers below n, joined in order
 unfoldable pub joined : {A : Type 0} → ℕ → (ℕ → List A) → List A
 joined zero part = []
-joined (suc n) part = joined n part ++ part n
+joined (suc n) part = part 0 ++ joined n (λ k. part (suc k))

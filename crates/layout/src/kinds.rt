@@ -21,7 +21,7 @@ pub const CLASS_CODE: u32 = 1;
 // C: at most so many bytes.
 pub const CLASS_C: u32 = 2;
 
-// N: digits, exactly so many; and digits of any number.
+// N: digits, exactly so many; and N without a size.
 pub const CLASS_N: u32 = 3;
 
 pub const CLASS_N_ANY: u32 = 4;

@@ -1,4 +1,4 @@
-// The parent of each row, by row number.
+// The parent of each row, by row number: the last row above it, in the same block, whose level is one less.
 ghost use Prim.Native.Nat.{_≤_};
 ghost use mathlib.Core.Path.{_≡_};
 ghost use Rattle.layout.specs.Packed.{parentColumn};

@@ -1,3 +1,4 @@
+-- The row at the code's slot has the code, or no row has it.
 use mathlib.Core.Path.{sym, _∙_}
 use borrow.Author.Needs.{needs}
 use native.Mathlib.Omega.{arith}

@@ -1,3 +1,4 @@
+-- The kind stands in the flat table, n - 1 places after the row's start.
 use borrow.Author.Needs.{needs}
 use native.Mathlib.Nat.{le-of-lt}
 use native.Mathlib.Omega.{arith}

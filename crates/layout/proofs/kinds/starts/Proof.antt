@@ -1,3 +1,4 @@
+-- The table holds the row starts: both sides compute to the same list.
 use mathlib.Core.Path.{refl}
 use Rattle.layout.specs.Lists.{tabulate}
 use Rattle.layout.specs.Rows.{rowTable, listed, fields}

@@ -1,3 +1,4 @@
+-- The table holds the kinds of all fields: both sides compute to the same list.
 use mathlib.Core.Path.{refl}
 use Rattle.layout.specs.Text.{bytes, codeNumber, textNumber}
 use Rattle.layout.specs.Rows.{rowTable, listed, code, fields, isOpening, isClosing}

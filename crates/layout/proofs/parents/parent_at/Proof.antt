@@ -1,3 +1,4 @@
+-- The parent is an entry of the column.
 use borrow.Author.Needs.{needs}
 use Rattle.layout.proofs.PackedLaws.{parent-entry}
 use Rattle.layout.proofs.parents.parent_at.Statement.{statement}

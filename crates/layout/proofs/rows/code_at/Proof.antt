@@ -1,3 +1,4 @@
+-- The code is a part of the row's number.
 use borrow.Author.Needs.{needs}
 use Rattle.layout.proofs.PackedLaws.{code-part}
 use Rattle.layout.proofs.rows.code_at.Statement.{statement}

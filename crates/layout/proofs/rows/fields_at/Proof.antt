@@ -1,3 +1,4 @@
+-- The number of fields is a part of the row's number.
 use borrow.Author.Needs.{needs}
 use Rattle.layout.proofs.PackedLaws.{fields-part}
 use Rattle.layout.proofs.rows.fields_at.Statement.{statement}

@@ -1,3 +1,4 @@
+-- The level is a part of the row's number.
 use borrow.Author.Needs.{needs}
 use Rattle.layout.proofs.PackedLaws.{level-part}
 use Rattle.layout.proofs.rows.level_at.Statement.{statement}

@@ -1,3 +1,4 @@
+-- The limit, by the tests that the code makes on occurrence and level.
 use borrow.Author.Needs.{needs}
 use borrow.Author.Tests.{eq-eqb, ne-eqb}
 use Rattle.layout.specs.Rows.{limit}

@@ -1,3 +1,4 @@
+-- The occurrence is a part of the row's number.
 use borrow.Author.Needs.{needs}
 use Rattle.layout.proofs.PackedLaws.{occurrence-part}
 use Rattle.layout.proofs.rows.occurrence_at.Statement.{statement}
