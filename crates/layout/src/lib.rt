@@ -2,4 +2,5 @@
 pub mod codes;
 pub mod kinds;
 pub mod parents;
+pub mod roles;
 pub mod rows;

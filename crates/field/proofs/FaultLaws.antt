@@ -1,0 +1,193 @@
+-- What the bar finds, kind by kind, is what rules 10 to 13 say of the word.
+use mathlib.Core.Path.{_≡_, _∙_, refl, sym, ap}
+use mathlib.Core.Bool.{Bool, true, false, not, _&&_, _||_}
+use mathlib.Core.List.{List, [], _∷_, reverse}
+use Prim.Native.Nat.{ℕ, suc, _+_, _-_, _*_, _/_, _%_, _^_, _<_, _≤_, min}
+use native.Mathlib.Nat.{add-mul-mod-self-left, mod-eq-of-lt, add-mul-div-left, div-eq-of-lt}
+use native.Mathlib.Omega.{arith}
+use lib.Dec.{eqb, leb, ltb}
+use lib.ListN.{length}
+use borrow.Author.Tests.{ne-eqb, eqb-true, eqb-false, lt-leb, le-ltb, lt-ltb, leb-true, leb-false}
+use Rattle.layout.specs.Pick.{pick}
+use Rattle.layout.specs.Text.{bytes}
+use Rattle.layout.specs.Kinds.{Kind, codeField, free, C, N, N-, decimals, date, lfpd, brasil, opens, count}
+use Rattle.layout.specs.Packed.{kindNumber}
+use Rattle.rules.specs.Bytes.{empty}
+use Rattle.rules.specs.Fields.{isDigit, allDigits, value, isDecimal, isDate, same, isText, formOf, states}
+use Rattle.field.specs.declared.bytes.Field.{Field}
+use Rattle.field.specs.Streaming.{cap, digitWith, textWith, decimalWith, isPlain, withByte, fieldAfter, emptyFault, rightForm, isExact, rightSize, contentFault, numberFault, textFault, isTextClass, faultOf}
+use Rattle.field.specs.Ruled.{ruled}
+use Rattle.field.proofs.TestLaws.{split, and-left}
+use Rattle.field.proofs.Picks.{and-first}
+use Rattle.field.proofs.LengthLaws.{length-is}
+use Rattle.field.proofs.DigitLaws.{digits-right, digits-value, value-below, capped-is}
+use Rattle.field.proofs.TextLaws.{text-is}
+use Rattle.field.proofs.DecimalLaws.{decimals-is}
+
+-- the bar after a word of this kind finds what the rules say
+abbrev Agrees : Kind → ℕ → List ℕ → Type 0
+Agrees k due w = faultOf (kindNumber k) (fieldAfter (kindNumber k) w) due ≡ ruled (formOf k) due w
+
+-- a kind's class and size, from the number that holds both
+class-of : (c n : ℕ) → c < 16 → (c + 16 * n) % 16 ≡ c
+class-of c n h = add-mul-mod-self-left c 16 n ∙ mod-eq-of-lt h
+
+size-of : (c n : ℕ) → c < 16 → (c + 16 * n) / 16 ≡ n
+size-of c n h = add-mul-div-left c n {y = 16} (omega arith) ∙ ap (λ k. k + n) (div-eq-of-lt h) ∙ omega arith
+
+fault-at : (c n : ℕ) (f : Field) (due : ℕ) → c < 16 → faultOf (c + 16 * n) f due ≡ pick (ltb c 2) 0 (pick (isTextClass c) (textFault c n f) (numberFault c n f due))
+unfolding faultOf
+fault-at c n f due h = rw (class-of c n h, size-of c n h)
+
+turned : (t : Bool) (n : ℕ) → pick t 0 n ≡ pick (not t) n 0
+turned true n = refl
+turned false n = refl
+
+-- the kinds of which nothing is asked
+code-bar : (due : ℕ) (w : List ℕ) → Agrees codeField due w
+unfolding kindNumber faultOf ruled formOf empty
+code-bar due [] = refl
+code-bar due (b ∷ w) = refl
+
+free-bar : (due : ℕ) (w : List ℕ) → Agrees free due w
+unfolding kindNumber faultOf ruled formOf empty
+free-bar due [] = refl
+free-bar due (b ∷ w) = refl
+
+-- texts: longer than the size, and then another than the fixed text
+over : (s n : ℕ) → ltb s n ≡ not (leb n s)
+over s n = split (leb n s) (λ t. rw t (le-ltb s n (leb-true n s t))) (λ t. rw t (lt-ltb s n (leb-false n s t)))
+
+C-bar : (s due : ℕ) (w : List ℕ) → Agrees (C s) due w
+unfolding kindNumber isTextClass textFault fieldAfter ruled formOf empty
+C-bar s due [] = fault-at 2 s (fieldAfter (2 + 16 * s) []) due (omega arith) ∙ rw (le-ltb s 0 (omega arith))
+C-bar s due (b ∷ w) =
+    fault-at 2 s (fieldAfter (2 + 16 * s) (b ∷ w)) due (omega arith)
+    ∙ ap (λ n. pick (ltb s n) 11 0) (length-is (2 + 16 * s) (b ∷ w)) ∙ ap (λ t. pick t 11 0) (over s (suc (length w)))
+
+module _ (kind c : ℕ) (text : List ℕ) (on : (f : Field) (b : ℕ) → withByte kind f b ≡ textWith text f b) (other : eqb c 2 ≡ false) where
+  text-bar : (w : List ℕ) → textFault c (length text) (fieldAfter kind w) ≡ pick (not (leb (length w) (length text))) 11 (pick (not (same w (reverse text))) 12 0)
+  unfolding textFault
+  text-bar w =
+      rw (text-is kind text on w, other, length-is kind w, over (length text) (length w), turned (same w (reverse text)) 12)
+
+lfpd-bar : (due : ℕ) (w : List ℕ) → Agrees lfpd due w
+unfolding kindNumber faultOf isTextClass withByte isPlain fieldAfter ruled formOf empty isText bytes
+lfpd-bar due [] = text-bar 71 7 (bytes "LFPD") (λ f b. refl) refl []
+lfpd-bar due (b ∷ w) = text-bar 71 7 (bytes "LFPD") (λ f b. refl) refl (b ∷ w)
+
+brasil-bar : (due : ℕ) (w : List ℕ) → Agrees brasil due w
+unfolding kindNumber faultOf isTextClass withByte isPlain fieldAfter ruled formOf empty isText bytes
+brasil-bar due [] = text-bar 104 8 (bytes "Brasil") (λ f b. refl) refl []
+brasil-bar due (b ∷ w) = text-bar 104 8 (bytes "Brasil") (λ f b. refl) refl (b ∷ w)
+
+-- numbers: the form, the size, and then what the content is asked
+in-turn : (form size : Bool) (x y : ℕ) → (form ≡ true → size ≡ true → x ≡ y) → pick form (pick size x 11) 10 ≡ pick (not form) 10 (pick (not size) 11 y)
+in-turn true true x y h = h refl refl
+in-turn true false x y h = refl
+in-turn false size x y h = refl
+
+number-bar : (c n : ℕ) (f : Field) (due l v : ℕ) (form : Bool) → rightForm c n f ≡ form → f .length ≡ suc l → f .value ≡ v → numberFault c n f due ≡ pick form (pick (rightSize c n (suc l)) (contentFault c v due) 11) 10
+unfolding numberFault
+number-bar c n f due l v form p q r = rw (p, q, r, ne-eqb (suc l) 0 (λ e. omega arith))
+
+module _ (kind c n : ℕ) (on : (f : Field) (b : ℕ) → withByte kind f b ≡ digitWith f b) (other : eqb c 5 ≡ false) where
+  digits-form : (w : List ℕ) → rightForm c n (fieldAfter kind w) ≡ allDigits w
+  unfolding rightForm
+  digits-form w =
+      let right = eqb (fieldAfter kind w .wrong) 0 in
+      rw other (sym (and-first right right true refl refl) ∙ digits-right kind on w)
+
+  digits-bar : (due b : ℕ) (w : List ℕ) → numberFault c n (fieldAfter kind (b ∷ w)) due ≡ pick (allDigits (b ∷ w)) (pick (rightSize c n (suc (length w))) (contentFault c (min cap (value (b ∷ w))) due) 11) 10
+  digits-bar due b w =
+      number-bar c n (fieldAfter kind (b ∷ w)) due (length w) (min cap (value (b ∷ w))) (allDigits (b ∷ w)) (digits-form (b ∷ w))
+      (length-is kind (b ∷ w)) (digits-value kind on (b ∷ w))
+
+N-on : (s : ℕ) (f : Field) (b : ℕ) → withByte (3 + 16 * s) f b ≡ digitWith f b
+unfolding withByte isPlain
+N-on s f b = rw (class-of 3 s (omega arith))
+
+N-bar : (s due : ℕ) (w : List ℕ) → Agrees (N s) due w
+unfolding kindNumber isTextClass fieldAfter numberFault emptyFault rightSize isExact contentFault ruled formOf empty
+N-bar s due [] = fault-at 3 s (fieldAfter (3 + 16 * s) []) due (omega arith)
+N-bar s due (b ∷ w) =
+    fault-at 3 s (fieldAfter (3 + 16 * s) (b ∷ w)) due (omega arith) ∙ digits-bar (3 + 16 * s) 3 s (N-on s) refl due b w
+    ∙ in-turn (allDigits (b ∷ w)) (eqb (suc (length w)) s) 0 0 (λ p q. refl)
+
+N--bar : (due : ℕ) (w : List ℕ) → Agrees N- due w
+unfolding kindNumber faultOf isTextClass withByte isPlain fieldAfter numberFault emptyFault rightSize isExact contentFault ruled formOf empty
+N--bar due [] = refl
+N--bar due (b ∷ w) = digits-bar 4 4 0 (λ f b. refl) refl due b w ∙ in-turn (allDigits (b ∷ w)) true 0 0 (λ p q. refl)
+
+decimals-on : (d : ℕ) (f : Field) (b : ℕ) → withByte (5 + 16 * d) f b ≡ decimalWith f b
+unfolding withByte isPlain
+decimals-on d f b = rw (class-of 5 d (omega arith))
+
+decimals-bar : (d due : ℕ) (w : List ℕ) → length w ≤ cap → Agrees (decimals d) due w
+unfolding kindNumber isTextClass fieldAfter numberFault emptyFault rightForm rightSize isExact contentFault ruled formOf empty
+decimals-bar d due [] h = fault-at 5 d (fieldAfter (5 + 16 * d) []) due (omega arith)
+decimals-bar d due (b ∷ w) h =
+    let f = fieldAfter (5 + 16 * d) (b ∷ w) in
+    fault-at 5 d f due (omega arith)
+    ∙ number-bar 5 d f due (length w) (f .value) (isDecimal d (b ∷ w)) (decimals-is (5 + 16 * d) (decimals-on d) d (b ∷ w) h)
+    (length-is (5 + 16 * d) (b ∷ w)) refl
+    ∙ in-turn (isDecimal d (b ∷ w)) true 0 0 (λ p q. refl)
+
+-- the value of eight digits is kept whole
+whole : (w : List ℕ) → allDigits w ≡ true → length w ≡ 8 → min cap (value w) ≡ value w
+whole w p e = let h : value w < 10 ^ 8 = rw e at (value-below w p) in omega arith
+
+date-bar : (due : ℕ) (w : List ℕ) → Agrees date due w
+unfolding kindNumber faultOf isTextClass withByte isPlain fieldAfter numberFault emptyFault rightSize isExact contentFault ruled formOf empty
+date-bar due [] = refl
+date-bar due (b ∷ w) =
+    let v = value (b ∷ w) in
+    digits-bar 134 6 8 (λ f b. refl) refl due b w
+    ∙ in-turn (allDigits (b ∷ w)) (eqb (suc (length w)) 8) (pick (isDate (min cap v)) 0 12) (pick (not (isDate v)) 12 0)
+    (λ p q. rw (whole (b ∷ w) p (eqb-true (suc (length w)) 8 q)) (turned (isDate v) 12))
+
+-- one digit is at most 1 where it is 0 or 1
+zero-or-one : (b : ℕ) → 48 ≤ b → leb (min cap (0 + (b - 48))) 1 ≡ (eqb b 48 && true || eqb b 49 && true)
+zero-or-one b h =
+    split (eqb b 48)
+    (λ t. rw (eqb-true b 48 t))
+    (λ t. split (eqb b 49)
+    (λ s. rw (eqb-true b 49 s))
+    (λ s. rw (t, s) (lt-leb (min cap (0 + (b - 48))) 1 (omega (arith, eqb-false b 48 t, eqb-false b 49 s)))))
+
+one-digit : (b : ℕ) (w : List ℕ) → allDigits (b ∷ w) ≡ true → eqb (suc (length w)) 1 ≡ true → leb (min cap (value (b ∷ w))) 1 ≡ (isText "0" (b ∷ w) || isText "1" (b ∷ w))
+unfolding isDigit allDigits value isText same bytes
+one-digit b [] p q = zero-or-one b (leb-true 48 b (and-left (leb 48 b) (leb b 57) (and-left (isDigit b) true p)))
+one-digit b (c ∷ w) p q = absurd (let e = eqb-true (suc (suc (length w))) 1 q in omega arith)
+
+opens-bar : (due : ℕ) (w : List ℕ) → Agrees opens due w
+unfolding kindNumber faultOf isTextClass withByte isPlain fieldAfter numberFault emptyFault rightSize isExact contentFault ruled formOf empty isText same bytes
+opens-bar due [] = refl
+opens-bar due (b ∷ w) =
+    let text = isText "0" (b ∷ w) || isText "1" (b ∷ w) in
+    digits-bar 25 9 1 (λ f b. refl) refl due b w
+    ∙ in-turn (allDigits (b ∷ w)) (eqb (suc (length w)) 1) (pick (leb (min cap (value (b ∷ w))) 1) 0 12) (pick (not text) 12 0)
+    (λ p q. ap (λ t. pick t 0 12) (one-digit b w p q) ∙ turned text 12)
+
+count-bar : (due : ℕ) (w : List ℕ) → due < cap → Agrees count due w
+unfolding kindNumber faultOf isTextClass withByte isPlain fieldAfter numberFault emptyFault rightSize isExact contentFault ruled formOf states empty
+count-bar due [] h = refl
+count-bar due (b ∷ w) h =
+    let v = value (b ∷ w) in
+    digits-bar 10 10 0 (λ f b. refl) refl due b w
+    ∙ in-turn (allDigits (b ∷ w)) true (pick (eqb (min cap v) due) 0 13) (pick (not (eqb v due)) 13 0)
+    (λ p q. rw (capped-is v due h) (turned (eqb v due) 13))
+
+-- at every kind; a word longer than the cap could have more decimals than are counted
+pub fault-is : (k : Kind) (due : ℕ) (w : List ℕ) → due < cap → length w ≤ cap → faultOf (kindNumber k) (fieldAfter (kindNumber k) w) due ≡ ruled (formOf k) due w
+fault-is codeField due w h l = code-bar due w
+fault-is free due w h l = free-bar due w
+fault-is (C s) due w h l = C-bar s due w
+fault-is (N s) due w h l = N-bar s due w
+fault-is N- due w h l = N--bar due w
+fault-is (decimals d) due w h l = decimals-bar d due w l
+fault-is date due w h l = date-bar due w
+fault-is lfpd due w h l = lfpd-bar due w
+fault-is brasil due w h l = brasil-bar due w
+fault-is opens due w h l = opens-bar due w
+fault-is count due w h l = count-bar due w h

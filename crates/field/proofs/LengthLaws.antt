@@ -1,0 +1,74 @@
+-- At every kind number: how long the field is, and its ranges. Of field 1: its code.
+use mathlib.Core.Path.{_≡_, _∙_, refl, ap}
+use mathlib.Core.Bool.{Bool, true, false}
+use mathlib.Core.List.{List, [], _∷_}
+use Prim.Native.Nat.{ℕ, suc, _+_, _*_, _%_, _<_, _≤_}
+use native.Mathlib.Nat.{mod-lt}
+use native.Mathlib.Numerals.{add-one}
+use native.Mathlib.Omega.{arith}
+use lib.Dec.{eqb}
+use lib.ListN.{length}
+use Rattle.layout.specs.Pick.{pick}
+use Rattle.layout.specs.Text.{bytes, codeNumber}
+use Rattle.layout.specs.Kinds.{codeField}
+use Rattle.layout.specs.Packed.{kindNumber}
+use Rattle.rules.specs.Fields.{isDigit}
+use Rattle.field.specs.declared.bytes.Field.{Field}
+use Rattle.field.specs.Streaming.{Fit, cap, fresh, longer, codeWith, valueWith, digitWith, textWith, decimalsWith, decimalWith, isPlain, withByte, fieldAfter}
+
+-- what holds of both choices holds of the choice
+either : {A : Type 0} (P : A → Type 0) (t : Bool) {a b : A} → P a → P b → P (pick t a b)
+either P true p q = p
+either P false p q = q
+
+-- what holds after one more byte of a field of each class holds after one more byte of any kind
+module _ (P : Field → Type 0) (kind : ℕ) (f : Field) (b : ℕ) where
+  by-class :
+      P (longer f (f .wrong) (f .value)) →
+      P (codeWith f b) →
+      P (decimalWith f b) →
+      ((text : List ℕ) → P (textWith text f b)) →
+      P (digitWith f b) →
+      P (withByte kind f b)
+  unfolding withByte
+  by-class plain code decimal text digit =
+      let class = kind % 16 in
+      either P (isPlain class) plain
+      (either P (eqb class 1) code
+      (either P (eqb class 5) decimal
+      (either P (eqb class 7) (text (bytes "LFPD")) (either P (eqb class 8) (text (bytes "Brasil")) digit))))
+
+one-longer : (kind : ℕ) (f : Field) (b : ℕ) → withByte kind f b .length ≡ f .length + 1
+unfolding textWith decimalWith digitWith
+one-longer kind f b =
+    let P : Field → Type 0 = λ g. g .length ≡ f .length + 1 in
+    by-class P kind f b refl refl (either P (isDigit b) refl refl) (λ text. refl) refl
+
+pub length-is : (kind : ℕ) (w : List ℕ) → fieldAfter kind w .length ≡ length w
+unfolding fieldAfter
+length-is kind [] = refl
+length-is kind (b ∷ w) =
+    one-longer kind (fieldAfter kind w) b ∙ add-one (fieldAfter kind w .length) ∙ ap suc (length-is kind w)
+
+pub code-is : (w : List ℕ) → fieldAfter (kindNumber codeField) w .value ≡ codeNumber w
+unfolding fieldAfter withByte isPlain kindNumber codeNumber
+code-is [] = refl
+code-is (b ∷ w) = ap (λ v. v % 16777216 * 256 + b) (code-is w)
+
+pub fit-fresh : Fit fresh
+fit-fresh = record { length = omega arith; value = omega arith }
+
+fit-longer : (f : Field) → f .length < 4294967296 → (wrong value : ℕ) → value ≤ cap → Fit (longer f wrong value)
+fit-longer f h wrong value v = record { length = omega arith; value = v }
+
+pub fit-after : {f : Field} {b : ℕ} → Fit f → b < 256 → f .length < 4294967296 → (kind : ℕ) → Fit (withByte kind f b)
+unfolding textWith decimalWith digitWith valueWith decimalsWith
+fit-after {f} {b} fit hb h kind =
+    by-class Fit kind f b
+    (fit-longer f h _ _ (fit .value))
+    (fit-longer f h _ _ (omega (arith, mod-lt (f .value) {m = 16777216} (omega arith))))
+    (either Fit (isDigit b)
+    (fit-longer f h _ _ (either (λ v. v ≤ cap) (eqb (f .value) 0) (omega arith) (omega arith)))
+    (fit-longer f h _ _ (omega arith)))
+    (λ text. fit-longer f h _ _ (fit .value))
+    (fit-longer f h _ _ (omega arith))

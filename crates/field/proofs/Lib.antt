@@ -1,0 +1,8 @@
+pub mod Picks
+pub mod TestLaws
+pub mod LengthLaws
+pub mod DigitLaws
+pub mod TextLaws
+pub mod DecimalLaws
+pub mod FaultLaws
+pub mod OpeningLaws

@@ -1,0 +1,41 @@
+-- Field 2 of an opening, once its bar has passed: the kept value says whether it is 0 or 1.
+use mathlib.Core.Path.{_≡_, refl}
+use mathlib.Core.Bool.{Bool, true, false, not, _&&_, _||_}
+use mathlib.Core.List.{List, [], _∷_}
+use mathlib.Core.Logic.{_⊎_, inl, inr, ⊎-elim}
+use Prim.Native.Nat.{ℕ}
+use native.Mathlib.Omega.{arith}
+use lib.Dec.{eqb}
+use lib.ListN.{length}
+use Rattle.layout.specs.Pick.{pick}
+use Rattle.layout.specs.Text.{bytes}
+use Rattle.layout.specs.Kinds.{opens}
+use Rattle.layout.specs.Packed.{kindNumber}
+use Rattle.rules.specs.Bytes.{empty}
+use Rattle.rules.specs.Fields.{allDigits, same, isText, formOf}
+use Rattle.field.specs.Streaming.{valueWith, digitWith, isPlain, withByte, fieldAfter}
+use Rattle.field.specs.Ruled.{ruled}
+use Rattle.field.proofs.TestLaws.{split}
+use Rattle.field.proofs.TextLaws.{same-eq}
+
+-- where no rule is broken the content is right
+content-right : (characters size content : Bool) → _≡_ {A = ℕ} (pick characters 10 (pick size 11 (pick (not content) 12 0))) 0 → content ≡ true
+content-right true size content e = absurd (omega arith)
+content-right false true content e = absurd (omega arith)
+content-right false false true e = refl
+content-right false false false e = absurd (omega arith)
+
+digit-text : (due : ℕ) (w : List ℕ) → ruled (formOf opens) due w ≡ 0 → (w ≡ 48 ∷ []) ⊎ (w ≡ 49 ∷ [])
+unfolding ruled formOf isText bytes
+digit-text due w e =
+    split (isText "0" w)
+    (λ t. inl (same-eq w (48 ∷ []) t))
+    (λ t. inr (same-eq w (49 ∷ []) (rw t at (content-right (not (empty w) && not (allDigits w)) (not (empty w) && not (eqb (length w) 1)) (isText "0" w || isText "1" w) e))))
+
+pub opens-zero : (due : ℕ) (w : List ℕ) → ruled (formOf opens) due w ≡ 0 → isText "0" w ≡ eqb (fieldAfter (kindNumber opens) w .value) 0
+unfolding isText same bytes kindNumber fieldAfter withByte isPlain digitWith valueWith
+opens-zero due w e = ⊎-elim (λ p. rw p) (λ p. rw p) (digit-text due w e)
+
+pub opens-one : (due : ℕ) (w : List ℕ) → ruled (formOf opens) due w ≡ 0 → isText "1" w ≡ eqb (fieldAfter (kindNumber opens) w .value) 1
+unfolding isText same bytes kindNumber fieldAfter withByte isPlain digitWith valueWith
+opens-one due w e = ⊎-elim (λ p. rw p) (λ p. rw p) (digit-text due w e)

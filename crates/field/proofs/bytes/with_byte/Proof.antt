@@ -1,0 +1,68 @@
+use Rattle.field.specs.Streaming.{withByte}
+use Rattle.field.proofs.Picks.{called}
+use borrow.Author.Needs.{needs}
+use Rattle.field.proofs.bytes.with_byte.Statement.{statement}
+use Rattle.field.proofs.bytes.with_byte.Tie as tie
+
+is-plain-requires : tie.Need-is-plain-requires
+is-plain-requires c κs = search needs
+
+add-t6 : tie.Need-add-t6
+add-t6 c = search needs
+
+returns : tie.Need-returns
+unfolding withByte
+returns c = search called depth 12
+
+code-with-requires : tie.Need-code-with-requires
+code-with-requires c κs = search needs
+
+returns-2 : tie.Need-returns-2
+unfolding withByte
+returns-2 c = search called depth 12
+
+decimal-with-requires : tie.Need-decimal-with-requires
+decimal-with-requires c κs = search needs
+
+returns-3 : tie.Need-returns-3
+unfolding withByte
+returns-3 c = search called depth 12
+
+lfpd-with-requires : tie.Need-lfpd-with-requires
+lfpd-with-requires c κs = search needs
+
+returns-4 : tie.Need-returns-4
+unfolding withByte
+returns-4 c = search called depth 12
+
+brasil-with-requires : tie.Need-brasil-with-requires
+brasil-with-requires c κs = search needs
+
+returns-5 : tie.Need-returns-5
+unfolding withByte
+returns-5 c = search called depth 12
+
+digit-with-requires : tie.Need-digit-with-requires
+digit-with-requires c κs = search needs
+
+returns-6 : tie.Need-returns-6
+unfolding withByte
+returns-6 c = search called depth 12
+
+pub with-byte-spec : {M : Type 1} → statement M
+with-byte-spec =
+    tie.close
+    (tie.spec
+    is-plain-requires
+    add-t6
+    returns
+    code-with-requires
+    returns-2
+    decimal-with-requires
+    returns-3
+    lfpd-with-requires
+    returns-4
+    brasil-with-requires
+    returns-5
+    digit-with-requires
+    returns-6)

@@ -1,0 +1,115 @@
+-- One field as it streams through: what is kept of its bytes, and what its bar finds, at every kind number and field.
+use mathlib.Core.Bool.{Bool, not, _&&_, _||_}
+use mathlib.Core.List.{List, [], _∷_}
+use Prim.Native.Nat.{ℕ, _+_, _-_, _*_, _/_, _%_, _≤_, min}
+use lib.Dec.{eqb, leb, ltb}
+use lib.ListN.{getD}
+use Rattle.layout.specs.Pick.{pick}
+use Rattle.layout.specs.Text.{bytes}
+use Rattle.rules.specs.Fields.{isDigit, isDate, comma}
+use Rattle.field.specs.declared.bytes.Field.{Field}
+
+-- a value is kept up to just above the largest number of bytes, and so of lines
+abbrev pub cap : ℕ
+cap = 4294967296
+
+-- what may be asked: the stored numbers' ranges
+pub record Fit (f : Field) : Type 0 where
+  pub length : f .length ≤ 4294967296
+  pub value : f .value ≤ cap
+
+-- before the first byte
+abbrev pub fresh : Field
+fresh = record { length = 0; wrong = 0; value = 0 }
+
+-- one more byte: of any field, of field 1, of digits, of a fixed text, of a number with decimals
+abbrev pub longer : Field → ℕ → ℕ → Field
+longer f wrong value = record { length = f .length + 1; wrong = wrong; value = value }
+
+abbrev pub wrongWith : Bool → Field → ℕ
+wrongWith right f = pick right (f .wrong) 1
+
+abbrev pub codeWith : Field → ℕ → Field
+codeWith f b = longer f (f .wrong) (f .value % 16777216 * 256 + b)
+
+unfoldable pub valueWith : ℕ → ℕ → ℕ
+valueWith v b = min cap (v * 10 + (b - 48))
+
+unfoldable pub digitWith : Field → ℕ → Field
+digitWith f b = longer f (wrongWith (isDigit b) f) (valueWith (f .value) b)
+
+unfoldable pub matches : List ℕ → ℕ → ℕ → Bool
+matches text at b = eqb (getD text at 256) b
+
+unfoldable pub textWith : List ℕ → Field → ℕ → Field
+textWith text f b = longer f (wrongWith (matches text (f .length) b) f) (f .value)
+
+-- a comma stands once, after one digit or more
+unfoldable pub commaFits : Field → ℕ → Bool
+commaFits f b = eqb b comma && eqb (f .value) 0 && ltb 0 (f .length)
+
+-- of a number with decimals the value is 0 before the comma, and then one more than the number of decimals so far
+unfoldable pub decimalsWith : ℕ → ℕ
+decimalsWith v = pick (eqb v 0) 0 (min cap (v + 1))
+
+unfoldable pub decimalWith : Field → ℕ → Field
+decimalWith f b =
+    pick (isDigit b) (longer f (f .wrong) (decimalsWith (f .value))) (longer f (wrongWith (commaFits f b) f) 1)
+
+-- of free fields and texts only the length is asked
+unfoldable pub isPlain : ℕ → Bool
+isPlain class = eqb class 0 || eqb class 2
+
+unfoldable pub withByte : ℕ → Field → ℕ → Field
+withByte kind f b =
+    let class = kind % 16 in
+    pick (isPlain class) (longer f (f .wrong) (f .value))
+    (pick (eqb class 1) (codeWith f b)
+    (pick (eqb class 5) (decimalWith f b)
+    (pick (eqb class 7) (textWith (bytes "LFPD") f b)
+    (pick (eqb class 8) (textWith (bytes "Brasil") f b) (digitWith f b)))))
+
+-- the field of a kind after the bytes of a word, the latest first
+unfoldable pub fieldAfter : ℕ → List ℕ → Field
+fieldAfter kind [] = fresh
+fieldAfter kind (b ∷ w) = withByte kind (fieldAfter kind w) b
+
+-- what the bar finds: the rule's number, 0 where none is broken; `due` is what a count must state
+unfoldable pub emptyFault : ℕ → ℕ
+emptyFault class = pick (eqb class 9) 12 (pick (eqb class 10) 13 0)
+
+unfoldable pub rightForm : ℕ → ℕ → Field → Bool
+rightForm class size f = eqb (f .wrong) 0 && (not (eqb class 5) || eqb (f .value) (size + 1))
+
+unfoldable pub isExact : ℕ → Bool
+isExact class = eqb class 3 || eqb class 6 || eqb class 9
+
+unfoldable pub rightSize : ℕ → ℕ → ℕ → Bool
+rightSize class size length = not (isExact class) || eqb length size
+
+unfoldable pub contentFault : ℕ → ℕ → ℕ → ℕ
+contentFault class value due =
+    pick (eqb class 6) (pick (isDate value) 0 12)
+    (pick (eqb class 9) (pick (leb value 1) 0 12) (pick (eqb class 10) (pick (eqb value due) 0 13) 0))
+
+unfoldable pub numberFault : ℕ → ℕ → Field → ℕ → ℕ
+numberFault class size f due =
+    pick (eqb (f .length) 0) (emptyFault class)
+    (pick (rightForm class size f) (pick (rightSize class size (f .length)) (contentFault class (f .value) due) 11) 10)
+
+unfoldable pub isFixed : Field → ℕ → Bool
+isFixed f size = eqb (f .wrong) 0 && eqb (f .length) size
+
+unfoldable pub textFault : ℕ → ℕ → Field → ℕ
+textFault class size f =
+    pick (ltb size (f .length)) 11 (pick (eqb class 2 || isFixed f size) 0 12)
+
+unfoldable pub isTextClass : ℕ → Bool
+isTextClass class = eqb class 2 || eqb class 7 || eqb class 8
+
+unfoldable pub faultOf : ℕ → Field → ℕ → ℕ
+faultOf kind f due =
+    let class = kind % 16 in
+    let size = kind / 16 in
+    pick (ltb class 2) 0
+    (pick (isTextClass class) (textFault class size f) (numberFault class size f due))

@@ -1,0 +1,229 @@
+// What is kept of a field's bytes.
+ghost use mathlib.Core.Path.{_≡_};
+ghost use Prim.Native.Nat.{_≤_};
+ghost use Rattle.layout.specs.Text.{bytes};
+ghost use Rattle.rules.specs.Fields.{isDigit};
+ghost use Rattle.field.specs.Streaming.{Fit, cap, fresh, codeWith, valueWith, digitWith, matches, textWith, commaFits, decimalsWith, decimalWith, isPlain, withByte};
+
+// The classes of kinds: a kind's number is its class plus 16 times its size.
+pub const CLASSES: u64 = layout::kinds::SIZE as u64;
+
+pub const FREE: u64 = layout::kinds::CLASS_FREE as u64;
+
+pub const CODE: u64 = layout::kinds::CLASS_CODE as u64;
+
+pub const TEXT: u64 = layout::kinds::CLASS_C as u64;
+
+pub const DIGITS: u64 = layout::kinds::CLASS_N as u64;
+
+pub const DECIMALS: u64 = layout::kinds::CLASS_DECIMALS as u64;
+
+pub const DATE: u64 = layout::kinds::CLASS_DATE as u64;
+
+pub const LFPD: u64 = layout::kinds::CLASS_LFPD as u64;
+
+pub const BRASIL: u64 = layout::kinds::CLASS_BRASIL as u64;
+
+pub const OPENS: u64 = layout::kinds::CLASS_OPENS as u64;
+
+pub const COUNT: u64 = layout::kinds::CLASS_COUNT as u64;
+
+const COMMA: u8 = 44;
+
+// A value is kept up to this, just above the largest number of bytes, and so of lines.
+const CAP: u64 = 4294967296;
+
+// How many bytes, whether one of them is wrong, and the value, by the field's kind.
+pub struct Field {
+    pub length: u64,
+    pub wrong: u64,
+    pub value: u64,
+}
+
+// Before the first byte.
+pub fn start() -> Field
+    ensures { λ r. ⌜ r ≡ fresh ⌝ }
+{
+    Field {
+        length: 0,
+        wrong: 0,
+        value: 0,
+    }
+}
+
+fn is_digit(b: u8) -> bool
+    ensures { λ r. ⌜ r ≡ isDigit b ⌝ }
+{
+    48 <= b && b <= 57
+}
+
+// One more digit; past the cap the value stays there, and never comes back below it.
+fn value_with(v: u64, b: u8) -> u64
+    requires { ⌜ v ≤ cap ⌝ }
+    ensures { λ r. ⌜ r ≡ valueWith v b ⌝ }
+{
+    let mut d: u64 = 0;
+    if 48 <= b {
+        d = (b - 48) as u64;
+    }
+    let w = v * 10 + d;
+    if w < CAP { w } else { CAP }
+}
+
+fn code_with(f: Field, b: u8) -> Field
+    requires { ⌜ Fit f ⌝ }
+    ensures { λ r. ⌜ r ≡ codeWith f b ⌝ }
+{
+    Field {
+        length: f.length + 1,
+        wrong: f.wrong,
+        value: f.value % 16777216 * 256 + b as u64,
+    }
+}
+
+fn digit_with(f: Field, b: u8) -> Field
+    requires { ⌜ Fit f ⌝ }
+    ensures { λ r. ⌜ r ≡ digitWith f b ⌝ }
+{
+    let value = value_with(f.value, b);
+    if is_digit(b) {
+        return Field {
+            length: f.length + 1,
+            wrong: f.wrong,
+            value,
+        };
+    }
+    Field {
+        length: f.length + 1,
+        wrong: 1,
+        value,
+    }
+}
+
+// Whether a fixed text has the byte at this place.
+fn has_at(text: &[u8], at: u64, b: u8) -> bool
+    ensures { λ r. ⌜ r ≡ matches (now (text .entry)) at b ⌝ }
+{
+    let i = at as usize;
+    if i < text.len() {
+        return text[i] == b;
+    }
+    false
+}
+
+fn text_with(text: &[u8], f: Field, b: u8) -> Field
+    requires { ⌜ Fit f ⌝ }
+    ensures { λ r. ⌜ r ≡ textWith (now (text .entry)) f b ⌝ }
+{
+    if has_at(text, f.length, b) {
+        return Field {
+            length: f.length + 1,
+            wrong: f.wrong,
+            value: f.value,
+        };
+    }
+    Field {
+        length: f.length + 1,
+        wrong: 1,
+        value: f.value,
+    }
+}
+
+// Each fixed text is mentioned in a function of its own: it is stored where that function starts, and not for every byte.
+fn lfpd_with(f: Field, b: u8) -> Field
+    requires { ⌜ Fit f ⌝ }
+    ensures { λ r. ⌜ r ≡ textWith (bytes "LFPD") f b ⌝ }
+{
+    text_with(b"LFPD", f, b)
+}
+
+fn brasil_with(f: Field, b: u8) -> Field
+    requires { ⌜ Fit f ⌝ }
+    ensures { λ r. ⌜ r ≡ textWith (bytes "Brasil") f b ⌝ }
+{
+    text_with(b"Brasil", f, b)
+}
+
+// A comma stands once, after one digit or more.
+fn comma_fits(f: Field, b: u8) -> bool
+    ensures { λ r. ⌜ r ≡ commaFits f b ⌝ }
+{
+    if b != COMMA {
+        return false;
+    }
+    if f.value != 0 {
+        return false;
+    }
+    0 < f.length
+}
+
+// One more digit of a number with decimals: none of them is a decimal before the comma.
+fn decimals_with(v: u64) -> u64
+    ensures { λ r. ⌜ r ≡ decimalsWith v ⌝ }
+{
+    if v == 0 {
+        return 0;
+    }
+    if v < CAP { v + 1 } else { CAP }
+}
+
+fn decimal_with(f: Field, b: u8) -> Field
+    requires { ⌜ Fit f ⌝ }
+    ensures { λ r. ⌜ r ≡ decimalWith f b ⌝ }
+{
+    let length = f.length + 1;
+    if is_digit(b) {
+        return Field {
+            length,
+            wrong: f.wrong,
+            value: decimals_with(f.value),
+        };
+    }
+    if comma_fits(f, b) {
+        return Field {
+            length,
+            wrong: f.wrong,
+            value: 1,
+        };
+    }
+    Field {
+        length,
+        wrong: 1,
+        value: 1,
+    }
+}
+
+// Of free fields and texts only the length is asked.
+fn is_plain(class: u64) -> bool
+    ensures { λ r. ⌜ r ≡ isPlain class ⌝ }
+{
+    class == FREE || class == TEXT
+}
+
+// One more byte of a field of this kind.
+pub fn with_byte(kind: u64, f: Field, b: u8) -> Field
+    requires { ⌜ Fit f ⌝ }
+    ensures { λ r. ⌜ r ≡ withByte kind f b ⌝ }
+{
+    let class = kind % CLASSES;
+    if is_plain(class) {
+        return Field {
+            length: f.length + 1,
+            wrong: f.wrong,
+            value: f.value,
+        };
+    }
+    if class == CODE {
+        return code_with(f, b);
+    }
+    if class == DECIMALS {
+        return decimal_with(f, b);
+    }
+    if class == LFPD {
+        return lfpd_with(f, b);
+    }
+    if class == BRASIL {
+        return brasil_with(f, b);
+    }
+    digit_with(f, b)
+}

@@ -1,0 +1,146 @@
+// What the bar after a field finds: the broken rule's number, 0 where none is broken.
+ghost use mathlib.Core.Path.{_≡_};
+ghost use Rattle.field.specs.Streaming.{emptyFault, rightForm, isExact, rightSize, contentFault, numberFault, isFixed, textFault, isTextClass, faultOf};
+use crate::bytes::BRASIL;
+use crate::bytes::CLASSES;
+use crate::bytes::COUNT;
+use crate::bytes::DATE;
+use crate::bytes::DECIMALS;
+use crate::bytes::DIGITS;
+use crate::bytes::Field;
+use crate::bytes::LFPD;
+use crate::bytes::OPENS;
+use crate::bytes::TEXT;
+use crate::date::is_date;
+
+const WRONG_CHARACTERS: u64 = 10;
+
+const WRONG_SIZE: u64 = 11;
+
+const WRONG_CONTENT: u64 = 12;
+
+const UNTRUE_COUNT: u64 = 13;
+
+// Of an empty number: a count and field 2 of an opening must hold something.
+fn empty_fault(class: u64) -> u64
+    ensures { λ r. ⌜ r ≡ emptyFault class ⌝ }
+{
+    if class == OPENS {
+        return WRONG_CONTENT;
+    }
+    if class == COUNT {
+        return UNTRUE_COUNT;
+    }
+    0
+}
+
+fn right_form(class: u64, size: u64, f: Field) -> bool
+    ensures { λ r. ⌜ r ≡ rightForm class size f ⌝ }
+{
+    if f.wrong != 0 {
+        return false;
+    }
+    if class != DECIMALS {
+        return true;
+    }
+    if f.value == 0 {
+        return false;
+    }
+    f.value - 1 == size
+}
+
+fn is_exact(class: u64) -> bool
+    ensures { λ r. ⌜ r ≡ isExact class ⌝ }
+{
+    if class == DIGITS {
+        return true;
+    }
+    class == DATE || class == OPENS
+}
+
+fn right_size(class: u64, size: u64, length: u64) -> bool
+    ensures { λ r. ⌜ r ≡ rightSize class size length ⌝ }
+{
+    if is_exact(class) {
+        return length == size;
+    }
+    true
+}
+
+fn content_fault(class: u64, value: u64, due: u64) -> u64
+    ensures { λ r. ⌜ r ≡ contentFault class value due ⌝ }
+{
+    if class == DATE {
+        return if is_date(value) { 0 } else { WRONG_CONTENT };
+    }
+    if class == OPENS {
+        return if value <= 1 { 0 } else { WRONG_CONTENT };
+    }
+    if class == COUNT {
+        return if value == due { 0 } else { UNTRUE_COUNT };
+    }
+    0
+}
+
+fn number_fault(class: u64, size: u64, f: Field, due: u64) -> u64
+    ensures { λ r. ⌜ r ≡ numberFault class size f due ⌝ }
+{
+    if f.length == 0 {
+        return empty_fault(class);
+    }
+    if !right_form(class, size, f) {
+        return WRONG_CHARACTERS;
+    }
+    if !right_size(class, size, f.length) {
+        return WRONG_SIZE;
+    }
+    content_fault(class, f.value, due)
+}
+
+fn is_fixed(f: Field, size: u64) -> bool
+    ensures { λ r. ⌜ r ≡ isFixed f size ⌝ }
+{
+    if f.wrong != 0 {
+        return false;
+    }
+    f.length == size
+}
+
+fn text_fault(class: u64, size: u64, f: Field) -> u64
+    ensures { λ r. ⌜ r ≡ textFault class size f ⌝ }
+{
+    if size < f.length {
+        return WRONG_SIZE;
+    }
+    if class == TEXT {
+        return 0;
+    }
+    if is_fixed(f, size) {
+        return 0;
+    }
+    WRONG_CONTENT
+}
+
+fn is_text_class(class: u64) -> bool
+    ensures { λ r. ⌜ r ≡ isTextClass class ⌝ }
+{
+    if class == TEXT {
+        return true;
+    }
+    class == LFPD || class == BRASIL
+}
+
+// The bar after a field of this kind; `due` is what a count must state.
+pub fn fault(kind: u64, f: Field, due: u64) -> u64
+    ensures { λ r. ⌜ r ≡ faultOf kind f due ⌝ }
+{
+    let class = kind % CLASSES;
+    let size = kind / CLASSES;
+    if class < TEXT {
+        return 0;
+    }
+    if is_text_class(class) {
+        return text_fault(class, size, f);
+    }
+    number_fault(class, size, f, due)
+}
