@@ -1,0 +1,100 @@
+-- Rules 10 to 13 at the state of the bytes received: what the bar after a field finds.
+use mathlib.Core.Path.{_≡_, _∙_, refl, sym}
+use mathlib.Core.Bool.{Bool, true, false, not, _&&_, _||_}
+use mathlib.Core.List.{List}
+use Prim.Native.Nat.{ℕ, _+_, _<_, _≤_}
+use native.Mathlib.Omega.{arith}
+use native.Mathlib.Numerals.{add-one}
+use lib.Dec.{eqb}
+use lib.ListN.{length}
+use borrow.Author.Tests.{eqb-true}
+use Rattle.layout.specs.Pick.{pick}
+use Rattle.layout.specs.Rows.{block, isClosing, row9999}
+use Rattle.layout.specs.Kinds.{kind}
+use Rattle.rules.specs.Bytes.{lines, rows, rowAtHand, bars, word, empty}
+use Rattle.rules.specs.Counts.{due}
+use Rattle.rules.specs.Fields.{Form, formOf, states}
+use Rattle.rules.specs.Rules.{Fault, clear, breaks, formAtHand}
+use Rattle.rules.proofs.TestLaws.{split, pick-le}
+use Rattle.layout.proofs.RoleLaws.{opening-kind}
+use Rattle.rules.proofs.ByteLaws.{bars-lines, word-bound, rows-length}
+use Rattle.rules.proofs.FaultLaws.{fieldFault}
+use Rattle.rules.proofs.StandLaws.{stand-closing}
+use Rattle.rules.proofs.BlockLaws.{since, since-le, due-9999, due-since}
+use Rattle.rules.proofs.SoundLaws.{Sound}
+use Rattle.field.specs.Streaming.{cap, faultOf}
+use Rattle.field.specs.Ruled.{ruled}
+use Rattle.field.proofs.FaultLaws.{fault-is}
+use Rattle.field.proofs.OpeningLaws.{opens-zero}
+use Rattle.line.specs.Machine.{dueOf}
+use Rattle.line.proofs.KindLaws.{count-row}
+use Rattle.line.proofs.HotOf.{hotOf, Told}
+
+-- what is due is asked of counts alone
+ruled-due : (f : Form) (m n : ℕ) (w : List ℕ) → (f .isCount ≡ true → m ≡ n) → ruled f m w ≡ ruled f n w
+unfolding ruled
+ruled-due f m n w e = split (f .isCount) (λ t. rw (e t)) (λ t. rw t)
+
+or-second : (a b : Bool) → (a || b) ≡ true → b ≡ false → a ≡ true
+or-second true b e f = refl
+or-second false b e f = sym f ∙ e
+
+-- the number of the rule that the bar after the field at hand breaks, 0 where it breaks none
+abbrev pub found : List ℕ → ℕ
+found seen = ruled (formOf (kind (rowAtHand seen) (bars seen))) (due (rowAtHand seen) (rows seen)) (word seen)
+
+module _ (seen : List ℕ) (late : 2 ≤ bars seen) (s : Sound seen) where
+  -- 13: what a count must state
+  pub due-is : formOf (kind (rowAtHand seen) (bars seen)) .isCount ≡ true → dueOf (hotOf seen) ≡ due (rowAtHand seen) (rows seen)
+  unfolding dueOf
+  due-is e =
+      let r = rowAtHand seen in
+      let known = s .known late in
+      let counts = count-row r (bars seen) e in
+      split (eqb r row9999)
+      (λ t. rw t (rw (eqb-true r row9999 t, due-9999 (rows seen), rows-length seen, add-one)))
+      (λ t. let c = or-second (isClosing r) (eqb r row9999) counts t in
+      rw t (rw (due-since (rows seen) (s .stood) r (known .0) c (sym (stand-closing (rows seen) r (known .0) c) ∙ known .1), add-one)))
+
+  pub due-small : dueOf (hotOf seen) < cap
+  unfolding dueOf
+  due-small =
+      let r = rowAtHand seen in
+      let n = length (lines seen) in
+      let nine = pick-le (eqb (block r) (block row9999)) 1 0 1 (omega arith) (omega arith) in
+      let in-block : since (rows seen) + 1 + pick (eqb (block r) (block row9999)) 1 0 ≤ n + 2 = omega (arith, since-le (rows seen), rows-length seen) in
+      let all = pick-le (eqb r row9999) (n + 1) _ (n + 2) (omega arith) in-block in
+      omega (arith, bars-lines seen, s .short)
+
+  pub found-is : faultOf (hotOf seen .kind) (hotOf seen .field) (dueOf (hotOf seen)) ≡ found seen
+  found-is =
+      let k = kind (rowAtHand seen) (bars seen) in
+      fault-is k (dueOf (hotOf seen)) (word seen) due-small (omega (arith, word-bound seen, s .short))
+      ∙ ruled-due (formOf k) (dueOf (hotOf seen)) (due (rowAtHand seen) (rows seen)) (word seen) due-is
+
+-- an opening's field 2 that its bar passes is 0 where its value is
+pub told : (seen : List ℕ) → found seen ≡ 0 → Told seen
+told seen z two o =
+    let k = opening-kind (rowAtHand seen) o in
+    rw (two, k) (opens-zero (due (rowAtHand seen) (rows seen)) (word seen) (rw (two, k) at z))
+
+abbrev pub faultFor : ℕ → ℕ → Fault
+faultFor n f = pick (eqb n 0) clear (breaks n f)
+
+-- the four rules of a field's bar, as one number
+by-number : (a b c d : Bool) (f : ℕ)
+    → pick a (breaks 10 f) (pick b (breaks 11 f) (pick c (breaks 12 f) (pick d (breaks 13 f) clear)))
+    ≡ faultFor (pick a 10 (pick b 11 (pick c 12 (pick d 13 0)))) f
+by-number true b c d f = refl
+by-number false true c d f = refl
+by-number false false true d f = refl
+by-number false false false true f = refl
+by-number false false false false f = refl
+
+pub field-fault-is : (seen : List ℕ) → fieldFault seen ≡ faultFor (found seen) (bars seen)
+unfolding ruled formAtHand
+field-fault-is seen =
+    let w = word seen in
+    let f = formOf (kind (rowAtHand seen) (bars seen)) in
+    by-number (not (empty w) && not (f .characters w)) (not (empty w) && not (f .size (length w))) (not (f .content w))
+    (f .isCount && not (states (due (rowAtHand seen) (rows seen)) w)) (bars seen)

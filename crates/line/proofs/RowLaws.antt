@@ -1,0 +1,53 @@
+-- Rules of a line's row where it may be "no row": its fields, and the row of the code at hand.
+use mathlib.Core.Path.{_≡_, refl}
+use mathlib.Core.Bool.{Bool, true, false}
+use Prim.Native.Nat.{ℕ, _<_, _≤_}
+use native.Mathlib.Nat.{le-refl}
+use native.Mathlib.Decide.{decLt}
+use native.Mathlib.Omega.{arith}
+use lib.Dec.{eqb}
+use lib.ListN.{length, List·getD-eq-default}
+use Rattle.layout.specs.Pick.{pick}
+use Rattle.layout.specs.Text.{bytes, codeNumber, textNumber}
+use Rattle.layout.specs.Rows.{rowTable, rowCount, none, listed, code, fields, isOpening, isClosing, rowOfCode}
+use Rattle.layout.specs.Kinds.{free, sheets, sheetOr, kindsOf, kind}
+use Rattle.layout.proofs.KindLaws.{kind-past}
+use Rattle.layout.proofs.RoleLaws.{fields-none}
+use Rattle.layout.proofs.CodeLaws.{row-of-code-le}
+use Rattle.line.specs.declared.hot.Hot.{Hot}
+use Rattle.line.specs.Machine.{wordRow}
+
+kinds-none : length (kindsOf none) ≡ 1
+unfolding kindsOf sheetOr sheets isOpening isClosing fields code listed rowTable textNumber codeNumber bytes
+kinds-none = refl
+
+none-past : (n : ℕ) → 1 < n → kind none n ≡ free
+unfolding kind
+none-past n h = let one = kinds-none in List·getD-eq-default (kindsOf none) free (omega arith)
+
+-- past the fields of a row, and of no row, none is to come
+pub past-free : (r n : ℕ) → r ≤ rowCount → fields r < n → kind r n ≡ free
+past-free r n h past = go (decLt r rowCount)
+  where
+    go : Dec (r < rowCount) → kind r n ≡ free
+    go (yes l) = kind-past r n l past
+    go (no l) = let e : r ≡ none = omega arith in rw e (none-past n (rw (e, fields-none) at past))
+
+-- what has a second field is a row
+pub field-row : (r n : ℕ) → r ≤ rowCount → 2 ≤ n → n ≤ fields r → r < rowCount
+field-row r n h two le = go (decLt r rowCount)
+  where
+    go : Dec (r < rowCount) → r < rowCount
+    go (yes l) = l
+    go (no l) =
+        let e : r ≡ none = omega arith in
+        let one : n ≤ 1 = rw (e, fields-none) at le in
+        absurd (omega arith)
+
+pub word-row-le : (h : Hot) → wordRow h ≤ rowCount
+unfolding wordRow
+word-row-le h = go (eqb (h .field .length) 4)
+  where
+    go : (t : Bool) → pick t (rowOfCode (h .field .value)) none ≤ rowCount
+    go true = row-of-code-le (h .field .value)
+    go false = le-refl rowCount

@@ -1,0 +1,179 @@
+-- What the checker does with one byte, at every state: one definition for each function of the step.
+use mathlib.Core.Bool.{Bool, true, false, not, _&&_, _||_}
+use mathlib.Core.Path.{_≡_}
+use mathlib.Core.List.{List, [], _∷_}
+use Prim.Native.Nat.{ℕ, zero, suc, _+_, _-_, _≤_}
+use lib.Dec.{eqb, leb, ltb}
+use lib.ListN.{getD}
+use Rattle.layout.specs.Pick.{pick}
+use Rattle.layout.specs.Rows.{rowCount, none, N, level, limit, fields, block, parent, isOpening, isClosing, row0000, row9990, row9999, rowOfCode}
+use Rattle.layout.specs.Kinds.{kind}
+use Rattle.layout.specs.Packed.{packedRows, parentColumn, packedKinds, startColumn, slotTable, kindNumber}
+use Rattle.rules.specs.Bytes.{bar, CR, LF, isEndByte}
+use Rattle.rules.specs.Order.{isData}
+use Rattle.rules.proofs.OpenLaws.{climb}
+use Rattle.rules.specs.Rules.{byteLimit}
+use Rattle.field.specs.Streaming.{cap, fresh, withByte, faultOf}
+use Rattle.line.specs.declared.hot.Hot.{Hot}
+use Rattle.line.specs.declared.step.Step.{Step}
+use Rattle.line.specs.declared.step.Step.the-variants.{Next, Broken}
+
+-- what a step may be asked of: the ranges of the stored numbers
+pub record Fit (h : Hot) : Type 0 where
+  pub bytes : h .bytes ≤ 4294967296
+  pub lines : h .lines ≤ h .bytes
+  pub last : h .last ≤ rowCount
+  pub since : h .since ≤ h .bytes
+  pub bars : h .bars ≤ h .bytes
+  pub row : h .row ≤ rowCount
+  pub length : h .field .length ≤ h .bytes
+  pub value : h .field .value ≤ cap
+
+-- the tables that are handed on
+pub record Tables (rs ps ks ss cs : List ℕ) : Type 0 where
+  pub rows : rs ≡ packedRows
+  pub parents : ps ≡ parentColumn
+  pub kinds : ks ≡ packedKinds
+  pub starts : ss ≡ startColumn
+  pub slots : cs ≡ slotTable
+
+-- one more byte of the field at hand
+abbrev pub grownOf : Hot → ℕ → Hot
+grownOf h b =
+    record {
+      lines = h .lines;
+      bytes = h .bytes + 1;
+      last = h .last;
+      since = h .since;
+      says = h .says;
+      bars = h .bars;
+      row = h .row;
+      fields = h .fields;
+      kind = h .kind;
+      field = withByte (h .kind) (h .field) b;
+    }
+
+-- one more bar: a field of this kind begins, in a line of this row
+abbrev pub movedOf : Hot → ℕ → ℕ → ℕ → ℕ → Hot
+movedOf h row fields kind says =
+    record {
+      lines = h .lines;
+      bytes = h .bytes + 1;
+      last = h .last;
+      since = h .since;
+      says = says;
+      bars = h .bars + 1;
+      row = row;
+      fields = fields;
+      kind = kind;
+      field = fresh;
+    }
+
+-- the lines since the last closing, once the line at hand has ended
+unfoldable pub sinceOf : Hot → ℕ
+sinceOf h = pick (isClosing (h .row)) 0 (h .since + 1)
+
+-- the line at hand has ended
+abbrev pub endedOf : Hot → Hot
+endedOf h =
+    record {
+      lines = h .lines + 1;
+      bytes = h .bytes + 1;
+      last = h .row;
+      since = sinceOf h;
+      says = h .says;
+      bars = 0;
+      row = none;
+      fields = 1;
+      kind = 1;
+      field = fresh;
+    }
+
+-- Where a line can stand, told from the row of the last line.
+unfoldable pub startsOf : ℕ → ℕ → Bool
+startsOf last r = pick (eqb (block r) 0) (eqb last row0000) (isClosing last && ltb (block last) (block r))
+
+unfoldable pub endsOf : ℕ → ℕ → Bool
+endsOf last r = eqb (block last) (block r) && not (isClosing last) && ltb 0 (level last)
+
+unfoldable pub hangsOf : ℕ → ℕ → Bool
+hangsOf last r = eqb (climb (level (parent r)) last) (parent r)
+
+unfoldable pub standsOf : ℕ → ℕ → Bool
+standsOf last r =
+    pick (eqb r row0000) (eqb last none)
+    (pick (isOpening r) (startsOf last r)
+    (pick (isClosing r) (endsOf last r) (pick (eqb r row9999) (eqb last row9990) (hangsOf last r))))
+
+-- an array's entry at a row; of no row 0
+unfoldable pub entryOf : List ℕ → ℕ → ℕ
+entryOf xs r = pick (ltb r rowCount) (getD xs r 0) 0
+
+-- the lines of row r under its parent line: those counted, if the last line of r came after the last line of its parent row
+unfoldable pub usedOf : List ℕ → List ℕ → ℕ → ℕ
+usedOf stamps occurrences r = pick (ltb (entryOf stamps (parent r)) (entryOf stamps r)) (entryOf occurrences r) 0
+
+unfoldable pub roomOf : List ℕ → List ℕ → ℕ → Bool
+roomOf stamps occurrences r = eqb (limit r) N || ltb (usedOf stamps occurrences r) (limit r)
+
+-- what an opening says: 1 for its field 2 being 0, 2 for 1; of any other line 0
+abbrev pub data0 : ℕ
+data0 = 1
+
+abbrev pub data1 : ℕ
+data1 = 2
+
+unfoldable pub misplacedOf : ℕ → ℕ → Bool
+misplacedOf says r = isData r && eqb says data1 || isClosing r && eqb says data0
+
+-- The bar after field 1.
+unfoldable pub wordRow : Hot → ℕ
+wordRow h = pick (eqb (h .field .length) 4) (rowOfCode (h .field .value)) none
+
+unfoldable pub codeBarOf : Hot → List ℕ → List ℕ → ℕ → Step
+codeBarOf h stamps occurrences r =
+    pick (eqb r none) (Broken 3 1)
+    (pick (standsOf (h .last) r)
+    (pick (misplacedOf (h .says) r) (Broken 5 1)
+    (pick (roomOf stamps occurrences r) (Next (movedOf h r (fields r) (kindNumber (kind r 2)) 0)) (Broken 6 1)))
+    (Broken 4 1))
+
+-- The bar after a later field.
+unfoldable pub dueOf : Hot → ℕ
+dueOf h = pick (eqb (h .row) row9999) (h .lines + 1) (h .since + 1 + pick (eqb (block (h .row)) (block row9999)) 1 0)
+
+unfoldable pub saysOf : Hot → ℕ
+saysOf h = pick (eqb (h .bars) 2 && isOpening (h .row)) (pick (eqb (h .field .value) 0) data0 data1) (h .says)
+
+unfoldable pub fieldBarOf : Hot → ℕ → Step
+fieldBarOf h n =
+    pick (eqb n 0) (Next (movedOf h (h .row) (h .fields) (kindNumber (kind (h .row) (h .bars + 1))) (saysOf h))) (Broken n (h .bars))
+
+unfoldable pub barOf : Hot → List ℕ → List ℕ → Step
+barOf h stamps occurrences =
+    pick (eqb (h .bars) 1) (codeBarOf h stamps occurrences (wordRow h)) (fieldBarOf h (faultOf (h .kind) (h .field) (dueOf h)))
+
+-- A byte in a field, past the last field, and at a line's start.
+unfoldable pub controlOf : Hot → ℕ → Step
+controlOf h b = pick (eqb (h .field .length) 0 && isEndByte b) (Broken 7 (h .bars)) (Broken 2 (h .bars))
+
+unfoldable pub inFieldOf : Hot → List ℕ → List ℕ → ℕ → Step
+inFieldOf h stamps occurrences b =
+    pick (eqb b bar) (barOf h stamps occurrences) (pick (ltb b 32) (controlOf h b) (Next (grownOf h b)))
+
+unfoldable pub pastOf : Hot → ℕ → Step
+pastOf h b =
+    pick (eqb (h .field .length) 0)
+    (pick (eqb b CR) (Next (grownOf h b)) (pick (eqb b LF) (Broken 9 0) (Broken 8 (h .bars))))
+    (pick (eqb b LF) (Next (endedOf h)) (Broken 9 0))
+
+unfoldable pub startOf : Hot → ℕ → Step
+startOf h b =
+    pick (eqb (h .last) row9999) (Broken 15 0)
+    (pick (eqb b bar) (Next (movedOf h (h .row) (h .fields) 1 (h .says))) (Broken 1 0))
+
+unfoldable pub stepOf : Hot → List ℕ → List ℕ → ℕ → Step
+stepOf h stamps occurrences b =
+    pick (leb byteLimit (h .bytes)) (Broken 16 0)
+    (pick (eqb (h .bars) 0) (startOf h b)
+    (pick (ltb (h .fields) (h .bars)) (pastOf h b) (inFieldOf h stamps occurrences b)))

@@ -1,0 +1,306 @@
+// One byte: the next state, or the broken rule with the field.
+ghost use mathlib.Core.Path.{_≡_};
+ghost use mathlib.Core.Bool.{_&&_, _||_};
+ghost use Prim.Native.Nat.{_≤_, _<_, _+_};
+ghost use lib.Dec.{eqb};
+ghost use Rattle.layout.specs.Rows.{rowCount};
+ghost use Rattle.layout.specs.Packed.{packedRows, parentColumn, packedKinds, startColumn, slotTable, kindNumber};
+ghost use Rattle.layout.specs.Kinds.{kind};
+ghost use Rattle.rules.specs.Bytes.{isEndByte};
+ghost use Rattle.line.specs.Machine.{Fit, Tables, wordRow, codeBarOf, dueOf, saysOf, fieldBarOf, barOf, controlOf, pastOf, startOf, stepOf};
+use crate::hot::CODE_KIND;
+use crate::hot::Hot;
+use crate::hot::ended;
+use crate::hot::grown;
+use crate::hot::moved;
+use crate::order::ROW_9999;
+use crate::order::WITH_DATA;
+use crate::order::WITHOUT_DATA;
+use crate::order::has_room;
+use crate::order::misplaced;
+use crate::order::stands;
+use layout::codes::SLOTS;
+use layout::codes::row_of_code;
+use layout::kinds::FIELDS;
+use layout::kinds::kind_at;
+use layout::roles::block_at;
+use layout::roles::is_opening;
+use layout::rows::ENTRIES;
+use layout::rows::ROWS;
+use layout::rows::fields_at;
+
+const BAR: u8 = 124;
+
+const CR: u8 = 13;
+
+pub const LF: u8 = 10;
+
+// The first byte that a field may hold.
+const BLANK: u8 = 32;
+
+// A file has at most so many bytes.
+const BYTE_LIMIT: u64 = 4294967295;
+
+// A code's length.
+const CODE_LENGTH: u64 = 4;
+
+// The place of block 9 in the order of blocks.
+const LAST_BLOCK: u64 = 6;
+
+pub enum Step {
+    Next(Hot),
+    Broken(u64, u64),
+}
+
+// The row of the code at hand, or no row.
+fn word_row(rows: &[u64; ENTRIES], slots: &[usize; SLOTS], h: Hot) -> usize
+    requires { ⌜ (now rows ≡ packedRows) × (now slots ≡ slotTable) ⌝ }
+    ensures { λ r. ⌜ r ≡ wordRow h ⌝ }
+{
+    let f = h.field;
+    if f.length == CODE_LENGTH {
+        return row_of_code(slots, rows, f.value);
+    }
+    ROWS
+}
+
+// The kind of a row's field n; past the row's fields there is none, and free stands for it.
+fn kind_of(
+    rows: &[u64; ENTRIES],
+    kinds: &[u32; FIELDS],
+    starts: &[usize; ENTRIES],
+    r: usize,
+    n: u64,
+) -> u64
+    requires { ⌜ (now rows ≡ packedRows) × (now kinds ≡ packedKinds) × (now starts ≡ startColumn) × (r ≤ rowCount) × (2 ≤ n) ⌝ }
+    ensures { λ k. ⌜ k ≡ kindNumber (kind r n) ⌝ }
+{
+    if fields_at(rows, r) < n {
+        return 0;
+    }
+    kind_at(kinds, starts, r, n as usize) as u64
+}
+
+// The bar after field 1, of a line whose code has the row r.
+fn code_bar(
+    h: Hot,
+    rows: &[u64; ENTRIES],
+    parents: &[usize; ENTRIES],
+    kinds: &[u32; FIELDS],
+    starts: &[usize; ENTRIES],
+    stamps: &[u64; ROWS],
+    occurrences: &[u64; ROWS],
+    r: usize,
+) -> Step
+    requires { ⌜ Fit h ⌝ }
+    requires { ⌜ (now rows ≡ packedRows) × (now parents ≡ parentColumn) × (now kinds ≡ packedKinds) × (now starts ≡ startColumn) × (r ≤ rowCount) ⌝ }
+    ensures { λ t. ⌜ t ≡ codeBarOf h (now (stamps .entry)) (now (occurrences .entry)) r ⌝ }
+{
+    if r == ROWS {
+        return Step::Broken(3, 1);
+    }
+    if !stands(rows, parents, h.last, r) {
+        return Step::Broken(4, 1);
+    }
+    if misplaced(rows, h.says, r) {
+        return Step::Broken(5, 1);
+    }
+    if !has_room(rows, parents, stamps, occurrences, r) {
+        return Step::Broken(6, 1);
+    }
+    Step::Next(moved(
+        h,
+        r,
+        fields_at(rows, r),
+        kind_of(rows, kinds, starts, r, 2),
+        0,
+    ))
+}
+
+// What field 2 of a closing, or of 9999, must state. Block 9 counts 9999 ahead.
+fn due(rows: &[u64; ENTRIES], h: Hot) -> u64
+    requires { ⌜ Fit h ⌝ }
+    requires { ⌜ now rows ≡ packedRows ⌝ }
+    ensures { λ n. ⌜ n ≡ dueOf h ⌝ }
+{
+    let r = h.row;
+    if r == ROW_9999 {
+        return h.lines + 1;
+    }
+    if block_at(rows, r) == LAST_BLOCK {
+        return h.since + 2;
+    }
+    h.since + 1
+}
+
+// Field 2 of an opening says whether data is to come.
+fn says(rows: &[u64; ENTRIES], h: Hot) -> u64
+    requires { ⌜ Fit h ⌝ }
+    requires { ⌜ now rows ≡ packedRows ⌝ }
+    ensures { λ n. ⌜ n ≡ saysOf h ⌝ }
+{
+    if h.bars != 2 {
+        return h.says;
+    }
+    if !is_opening(rows, h.row) {
+        return h.says;
+    }
+    let f = h.field;
+    if f.value == 0 {
+        WITH_DATA
+    } else {
+        WITHOUT_DATA
+    }
+}
+
+// The bar after a later field, in which it found the broken rule n, or none.
+fn field_bar(
+    h: Hot,
+    rows: &[u64; ENTRIES],
+    kinds: &[u32; FIELDS],
+    starts: &[usize; ENTRIES],
+    n: u64,
+) -> Step
+    requires { ⌜ Fit h ⌝ }
+    requires { ⌜ (now rows ≡ packedRows) × (now kinds ≡ packedKinds) × (now starts ≡ startColumn) × (1 ≤ h .bars) ⌝ }
+    ensures { λ t. ⌜ t ≡ fieldBarOf h n ⌝ }
+{
+    if n != 0 {
+        return Step::Broken(n, h.bars);
+    }
+    let r = h.row;
+    Step::Next(moved(
+        h,
+        r,
+        h.fields,
+        kind_of(rows, kinds, starts, r, h.bars + 1),
+        says(rows, h),
+    ))
+}
+
+// A bar in a line.
+fn bar(
+    h: Hot,
+    rows: &[u64; ENTRIES],
+    parents: &[usize; ENTRIES],
+    kinds: &[u32; FIELDS],
+    starts: &[usize; ENTRIES],
+    slots: &[usize; SLOTS],
+    stamps: &[u64; ROWS],
+    occurrences: &[u64; ROWS],
+) -> Step
+    requires { ⌜ Fit h ⌝ }
+    requires { ⌜ Tables (now rows) (now parents) (now kinds) (now starts) (now slots) ⌝ }
+    requires { ⌜ 1 ≤ h .bars ⌝ }
+    ensures { λ t. ⌜ t ≡ barOf h (now (stamps .entry)) (now (occurrences .entry)) ⌝ }
+{
+    if h.bars == 1 {
+        return code_bar(
+            h,
+            rows,
+            parents,
+            kinds,
+            starts,
+            stamps,
+            occurrences,
+            word_row(rows, slots, h),
+        );
+    }
+    let f = h.field;
+    field_bar(
+        h,
+        rows,
+        kinds,
+        starts,
+        field::fault::fault(h.kind, f, due(rows, h)),
+    )
+}
+
+fn is_end_byte(b: u8) -> bool
+    ensures { λ t. ⌜ t ≡ isEndByte b ⌝ }
+{
+    b == CR || b == LF
+}
+
+// A control byte in a field: where the field has no byte yet, CR and LF leave it out.
+fn control(h: Hot, b: u8) -> Step
+    ensures { λ t. ⌜ t ≡ controlOf h b ⌝ }
+{
+    let f = h.field;
+    if f.length == 0 {
+        if is_end_byte(b) {
+            return Step::Broken(7, h.bars);
+        }
+    }
+    Step::Broken(2, h.bars)
+}
+
+// A byte past the last field.
+fn past(h: Hot, rows: &[u64; ENTRIES], b: u8) -> Step
+    requires { ⌜ Fit h ⌝ }
+    requires { ⌜ now rows ≡ packedRows ⌝ }
+    ensures { λ t. ⌜ t ≡ pastOf h b ⌝ }
+{
+    let f = h.field;
+    if f.length != 0 {
+        if b == LF {
+            return Step::Next(ended(rows, h));
+        }
+        return Step::Broken(9, 0);
+    }
+    if b == CR {
+        return Step::Next(grown(h, b));
+    }
+    if b == LF {
+        return Step::Broken(9, 0);
+    }
+    Step::Broken(8, h.bars)
+}
+
+// A line's first byte.
+fn first(h: Hot, b: u8) -> Step
+    requires { ⌜ Fit h ⌝ }
+    ensures { λ t. ⌜ t ≡ startOf h b ⌝ }
+{
+    if h.last == ROW_9999 {
+        return Step::Broken(15, 0);
+    }
+    if b != BAR {
+        return Step::Broken(1, 0);
+    }
+    Step::Next(moved(h, h.row, h.fields, CODE_KIND, h.says))
+}
+
+// One byte.
+pub fn judge(
+    h: Hot,
+    rows: &[u64; ENTRIES],
+    parents: &[usize; ENTRIES],
+    kinds: &[u32; FIELDS],
+    starts: &[usize; ENTRIES],
+    slots: &[usize; SLOTS],
+    stamps: &[u64; ROWS],
+    occurrences: &[u64; ROWS],
+    b: u8,
+) -> Step
+    requires { ⌜ Fit h ⌝ }
+    requires { ⌜ Tables (now rows) (now parents) (now kinds) (now starts) (now slots) ⌝ }
+    ensures { λ t. ⌜ t ≡ stepOf h (now (stamps .entry)) (now (occurrences .entry)) b ⌝ }
+{
+    if BYTE_LIMIT <= h.bytes {
+        return Step::Broken(16, 0);
+    }
+    if h.bars == 0 {
+        return first(h, b);
+    }
+    if h.fields < h.bars {
+        return past(h, rows, b);
+    }
+    if b == BAR {
+        return bar(h, rows, parents, kinds, starts, slots, stamps, occurrences);
+    }
+    if b < BLANK {
+        return control(h, b);
+    }
+    Step::Next(grown(h, b))
+}
