@@ -1,0 +1,67 @@
+-- A field's ranges: one more byte makes it one longer, and leaves its mark of a wrong byte at 0 or 1.
+use mathlib.Core.Path.{_≡_, refl}
+use mathlib.Core.Bool.{Bool, true, false}
+use mathlib.Core.List.{List, [], _∷_}
+use Prim.Native.Nat.{ℕ, _+_, _≤_, _%_}
+use native.Mathlib.Omega.{arith}
+use lib.Dec.{eqb}
+use lib.ListN.{length}
+use Rattle.layout.specs.Pick.{pick}
+use Rattle.layout.specs.Text.{bytes}
+use Rattle.rules.specs.Fields.{isDigit}
+use Rattle.rules.proofs.TestLaws.{pick-le}
+use Rattle.field.specs.declared.bytes.Field.{Field}
+use Rattle.field.specs.Streaming.{longer, wrongWith, digitWith, matches, textWith, commaFits, decimalWith, isPlain, withByte, fieldAfter}
+
+-- what one more byte makes of a field
+data Grown (f : Field) : Field → Type 0 where
+  grown : (wrong value : ℕ) → (f .wrong ≤ 1 → wrong ≤ 1) → Grown f (longer f wrong value)
+
+module _ (f : Field) where
+  pick-grown : (t : Bool) (a b : Field) → Grown f a → Grown f b → Grown f (pick t a b)
+  pick-grown true a b p q = p
+  pick-grown false a b p q = q
+
+  marked : (right : Bool) (value : ℕ) → Grown f (longer f (wrongWith right f) value)
+  marked right value = grown _ value (λ h. pick-le right (f .wrong) 1 1 h (omega arith))
+
+  left : (value : ℕ) → Grown f (longer f (f .wrong) value)
+  left value = grown (f .wrong) value (λ h. h)
+
+  module _ (b : ℕ) where
+    decimal-grown : Grown f (decimalWith f b)
+    unfolding decimalWith
+    decimal-grown = pick-grown (isDigit b) _ _ (left _) (marked (commaFits f b) _)
+
+    digit-grown : Grown f (digitWith f b)
+    unfolding digitWith
+    digit-grown = marked (isDigit b) _
+
+    text-grown : (text : List ℕ) → Grown f (textWith text f b)
+    unfolding textWith
+    text-grown text = marked (matches text (f .length) b) _
+
+    byte-grown : (kind : ℕ) → Grown f (withByte kind f b)
+    unfolding withByte
+    byte-grown kind =
+        let class = kind % 16 in
+        pick-grown (isPlain class) _ _ (left _)
+        (pick-grown (eqb class 1) _ _ (left _)
+        (pick-grown (eqb class 5) _ _ decimal-grown
+        (pick-grown (eqb class 7) _ _ (text-grown (bytes "LFPD"))
+        (pick-grown (eqb class 8) _ _ (text-grown (bytes "Brasil")) digit-grown))))
+
+grown-length : {f g : Field} → Grown f g → g .length ≡ f .length + 1
+grown-length (grown w v h) = refl
+
+grown-wrong : {f g : Field} → Grown f g → f .wrong ≤ 1 → g .wrong ≤ 1
+grown-wrong (grown w v h) l = h l
+
+pub byte-length : (kind : ℕ) (f : Field) (b : ℕ) → withByte kind f b .length ≡ f .length + 1
+byte-length kind f b = grown-length (byte-grown f b kind)
+
+-- the field of a word
+pub word-wrong : (kind : ℕ) (w : List ℕ) → fieldAfter kind w .wrong ≤ 1
+unfolding fieldAfter
+word-wrong kind [] = omega arith
+word-wrong kind (b ∷ w) = grown-wrong (byte-grown (fieldAfter kind w) b kind) (word-wrong kind w)

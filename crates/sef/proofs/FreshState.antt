@@ -1,0 +1,25 @@
+-- The fresh state is that of no bytes, by computation.
+use mathlib.Core.Path.{_≡_, _∙_, refl, sym, ap}
+use mathlib.Core.List.{[]}
+use Rattle.layout.specs.Text.{bytes, codeNumber, textNumber}
+use Rattle.layout.specs.Rows.{rowTable, listed, code, fields, isOpening, isClosing}
+use Rattle.layout.specs.Kinds.{sheets, sheetOr, kindsOf, kind}
+use Rattle.layout.specs.Packed.{kindNumber}
+use Rattle.rules.specs.Bytes.{cut, lines, lineAtHand, part, field, rowOfWord, rowOf, rows, rowAtHand, bars, word}
+use Rattle.rules.specs.Order.{last}
+use Rattle.rules.specs.Counts.{linesOfRow, countsOfRows}
+use Rattle.layout.specs.Lists.{tabulate}
+use Rattle.rules.proofs.BlockLaws.{since}
+use Rattle.rules.proofs.OccurrenceLaws.{stamps, occurrences, stamped, occurred}
+use Rattle.rules.proofs.CleanLaws.{clean-start}
+use Rattle.field.specs.Streaming.{fieldAfter}
+use Rattle.sef.specs.Calls.{fresh, openOf}
+use Rattle.line.proofs.HotOf.{says, lastSays}
+use Rattle.sef.proofs.StateAfter.{openAt, checkedAfter, after-clean}
+
+fresh-open : fresh ≡ openAt [] .state
+unfolding fresh openOf says lastSays lines rows last since cut lineAtHand bars word rowAtHand rowOf rowOfWord field part fields listed rowTable kind kindsOf isOpening isClosing code bytes codeNumber textNumber sheets sheetOr kindNumber fieldAfter countsOfRows tabulate linesOfRow stamps stamped occurrences occurred
+fresh-open = refl
+
+pub fresh-is : fresh ≡ checkedAfter [] .state
+fresh-is = fresh-open ∙ ap (λ t. t .state) (sym (after-clean [] clean-start))

@@ -1,0 +1,15 @@
+pub mod ArrayLaws
+pub mod FieldRanges
+pub mod RangeLaws
+pub mod RunLaws
+pub mod ByteBounds
+pub mod TableRanges
+pub mod StateRanges
+pub mod StateAfter
+pub mod FreshState
+pub mod Joined
+pub mod CallLaws
+pub mod FillLaws
+pub mod OneResult
+pub mod DamagedLaws
+pub mod Demands

@@ -1,0 +1,215 @@
+-- The state after the bytes received, as a function of them, and what each call makes of it.
+use mathlib.Core.Path.{_≡_, _∙_, refl, sym, ap}
+use mathlib.Core.Bool.{Bool, true, false}
+use mathlib.Core.List.{List, [], _∷_, reverseAux}
+use mathlib.Core.Logic.{⊎-elim}
+use Prim.Native.Nat.{ℕ, _+_, _≤_}
+use native.Mathlib.Omega.{arith}
+use native.Mathlib.Numerals.{add-one}
+use lib.Dec.{eqb}
+use lib.ListN.{length}
+use borrow.Author.Tests.{ne-eqb}
+use Rattle.layout.specs.Pick.{pick}
+use Rattle.layout.specs.Rows.{row9999}
+use Rattle.rules.specs.Bytes.{lines, rows, rowAtHand, bars}
+use Rattle.rules.specs.Order.{last}
+use Rattle.rules.specs.Counts.{countsOfRows}
+use Rattle.rules.specs.Rules.{Fault, clear, breaks, fault, finished}
+use Rattle.rules.specs.Verdict.{Verdict, stillOpen, refused, accepted, verdict, stands, standing, counts, finishVerdict}
+use Rattle.rules.proofs.TestLaws.{split}
+use Rattle.rules.proofs.FaultLaws.{finished-last}
+use Rattle.rules.proofs.OccurrenceLaws.{stamps, occurrences}
+use Rattle.rules.proofs.CleanLaws.{Clean, Refused, clean-next, verdict-broken, verdict-stays, standing-refused, standing-clean, clean-or-refused, clean-short, finish-clean, finish-refused}
+use Rattle.rules.proofs.SoundLaws.{sound}
+use Rattle.sef.specs.Calls.{openOf, stoppedOf, runOf, rangedOf, checkOf, keptOf, verdictOf, finishOf}
+use Rattle.sef.specs.Promises.{said}
+use Rattle.sef.specs.declared.state.Checked.{Checked}
+use Rattle.line.proofs.HotOf.{hotOf}
+use Rattle.line.proofs.Sim.{step-is}
+use Rattle.sef.proofs.ArrayLaws.{counts-next, stamps-next, occurrences-next}
+use Rattle.sef.proofs.ByteBounds.{OfBytes}
+use Rattle.layout.proofs.RowLaws.{fields-most}
+use Rattle.sef.proofs.TableRanges.{Named, no-rule, a-rule, fault-named}
+use Rattle.sef.proofs.StateRanges.{row-le, state-ranged}
+
+-- while no byte has broken a rule, and where one has broken rule n at the field f
+abbrev pub openAt : List ℕ → Checked
+openAt seen = openOf (hotOf seen) (countsOfRows (rows seen)) (stamps (rows seen)) (occurrences (rows seen))
+
+abbrev pub stoppedAt : List ℕ → ℕ → ℕ → Checked
+stoppedAt seen n f = stoppedOf (hotOf seen) (countsOfRows (rows seen)) (stamps (rows seen)) (occurrences (rows seen)) n f
+
+abbrev pub runAt : List ℕ → List ℕ → Checked
+runAt seen piece = runOf (hotOf seen) (countsOfRows (rows seen)) (stamps (rows seen)) (occurrences (rows seen)) piece
+
+-- what check gives back after the bytes received: it keeps those that stand, and the refusal
+unfoldable pub checkedBy : Verdict → List ℕ → Checked
+checkedBy (stillOpen l n) stood = openAt stood
+checkedBy (refused n line f l k) stood = stoppedAt stood n f
+checkedBy (accepted l n) stood = openAt stood
+
+unfoldable pub checkedAfter : List ℕ → Checked
+checkedAfter seen = checkedBy (verdict seen) (standing seen)
+
+module _ (seen : List ℕ) where
+  pub after-clean : Clean seen → checkedAfter seen ≡ openAt seen
+  unfolding checkedAfter checkedBy
+  after-clean c = rw (c, standing-clean seen c)
+
+  pub after-refused : (r : Refused seen) → checkedAfter seen ≡ stoppedAt (r .before) (r .number) (r .named)
+  unfolding checkedAfter checkedBy
+  after-refused r = rw (r .says, r .left)
+
+-- A piece after a clean history, byte by byte.
+module _ (seen : List ℕ) (b : ℕ) (c : Clean seen) where
+  run-clear : (rest : List ℕ) → fault seen b ≡ clear → runAt seen (b ∷ rest) ≡ runAt (b ∷ seen) rest
+  unfolding runOf
+  run-clear rest e = rw (step-is seen b c, e, counts-next seen b c e, stamps-next seen b c e, occurrences-next seen b c e)
+
+  run-broken : (rest : List ℕ) (n f : ℕ) → fault seen b ≡ breaks n f → runAt seen (b ∷ rest) ≡ stoppedAt seen n f
+  unfolding runOf
+  run-broken rest n f e = rw (step-is seen b c, e)
+
+  after-broken : (n f : ℕ) → fault seen b ≡ breaks n f → checkedAfter (b ∷ seen) ≡ stoppedAt seen n f
+  unfolding checkedAfter checkedBy
+  after-broken n f e =
+      let v = verdict-broken seen b c n f e in
+      rw (v, standing-refused seen b n _ f _ _ v, standing-clean seen c)
+
+-- what was refused stays refused
+module _ (n line f l k : ℕ) where
+  after-one : (seen : List ℕ) (b : ℕ) → verdict seen ≡ refused n line f l k → checkedAfter (b ∷ seen) ≡ checkedAfter seen
+  unfolding checkedAfter
+  after-one seen b e =
+      let v = verdict-stays seen b n line f l k e in
+      rw (v, e, standing-refused seen b n line f l k v)
+
+  after-more : (piece seen : List ℕ) → verdict seen ≡ refused n line f l k → checkedAfter (reverseAux piece seen) ≡ checkedAfter seen
+  after-more [] seen e = refl
+  after-more (b ∷ piece) seen e = after-more piece (b ∷ seen) (verdict-stays seen b n line f l k e) ∙ after-one seen b e
+
+run-after : (piece seen : List ℕ) → Clean seen → runAt seen piece ≡ checkedAfter (reverseAux piece seen)
+run-after [] seen c = unfold runOf in sym (after-clean seen c)
+run-after (b ∷ piece) seen c = go (fault seen b) refl (λ e. run-after piece (b ∷ seen) (clean-next seen b c e))
+  where
+    go : (t : Fault) → fault seen b ≡ t → (fault seen b ≡ clear → runAt (b ∷ seen) piece ≡ checkedAfter (reverseAux piece (b ∷ seen)))
+        → runAt seen (b ∷ piece) ≡ checkedAfter (reverseAux piece (b ∷ seen))
+    go clear e ih = run-clear seen b c piece e ∙ ih e
+    go (breaks n f) e ih =
+        run-broken seen b c piece n f e
+        ∙ sym (after-more n _ f _ _ piece (b ∷ seen) (verdict-broken seen b c n f e) ∙ after-broken seen b c n f e)
+
+-- The ranges.
+-- What a refusal says: a number from 1 to 16, a field of the line
+abbrev pub Numbered : ℕ → ℕ → Type 0
+Numbered n f = (1 ≤ n) × (n ≤ 16) × (f ≤ 31)
+
+pub refused-number : (seen : List ℕ) (r : Refused seen) → Numbered (r .number) (r .named)
+refused-number seen r = go (fault (r .before) (r .byte)) (fault-named (r .before) (r .byte)) (r .broken)
+  where
+    go : (t : Fault) → Named (bars (r .before)) t → t ≡ breaks (r .number) (r .named) → Numbered (r .number) (r .named)
+    go clear no-rule e = absurd (let z : _≡_ {A = ℕ} 0 1 = cc in omega arith)
+    go (breaks n f) (a-rule low high named) e =
+        let p : n ≡ r .number = cc in
+        let q : f ≡ r .named = cc in
+        omega (arith, sound (r .before) (r .clean) .within, fields-most (rowAtHand (r .before)) (row-le (r .before)))
+
+-- the bytes that stand are bytes
+standing-bytes : (seen : List ℕ) → OfBytes seen → OfBytes (standing seen)
+unfolding standing
+standing-bytes [] bytes = tt
+standing-bytes (b ∷ seen) bytes = go (stands (verdict (b ∷ seen))) (standing-bytes seen (bytes .1))
+  where
+    go : (t : Bool) → OfBytes (standing seen) → OfBytes (pick t (b ∷ seen) (standing seen))
+    go true rest = bytes
+    go false rest = rest
+
+module _ (seen : List ℕ) (bytes : OfBytes seen) where
+  open-ranged : Clean seen → rangedOf (openAt seen .state) ≡ true
+  unfolding openOf
+  open-ranged c =
+      state-ranged seen (sound seen c) bytes (length seen) (omega arith) (omega (arith, clean-short seen c)) 0 0 (omega arith) (omega arith) false
+
+  stopped-ranged : (r : Refused seen) → rangedOf (stoppedAt (r .before) (r .number) (r .named) .state) ≡ true
+  unfolding stoppedOf
+  stopped-ranged r =
+      let n = refused-number seen r in
+      state-ranged (r .before) (sound (r .before) (r .clean)) (rw (r .left) at (standing-bytes seen bytes)) (length (r .before) + 1)
+      (omega arith) (omega (arith, clean-short (r .before) (r .clean))) (r .number) (r .named) (n .1) (n .2) false
+
+  -- every state that is given back is within its ranges
+  pub after-ranged : rangedOf (checkedAfter seen .state) ≡ true
+  after-ranged =
+      ⊎-elim (λ c. rw (after-clean seen c) (open-ranged c)) (λ r. rw (after-refused seen r) (stopped-ranged r)) (clean-or-refused seen)
+
+  -- a piece: what check gives back is the state after the bytes joined
+  open-joins : (piece : List ℕ) → Clean seen → checkOf (openAt seen .state) piece ≡ runAt seen piece
+  unfolding checkOf
+  open-joins piece c = unfold openOf in rw (open-ranged c)
+
+  stopped-joins : (piece : List ℕ) (r : Refused seen)
+      → checkOf (stoppedAt (r .before) (r .number) (r .named) .state) piece ≡ stoppedAt (r .before) (r .number) (r .named)
+  unfolding checkOf
+  stopped-joins piece r =
+      rw (stopped-ranged r)
+      (unfold stoppedOf keptOf in rw (ne-eqb (r .number) 0 (λ z. omega (arith, refused-number seen r .0))))
+
+  pub check-after : (piece : List ℕ) → checkOf (checkedAfter seen .state) piece ≡ checkedAfter (reverseAux piece seen)
+  check-after piece =
+      ⊎-elim (λ c. rw (after-clean seen c) (open-joins piece c ∙ run-after piece seen c))
+      (λ r. ap (λ t. checkOf (t .state) piece) (after-refused seen r) ∙ stopped-joins piece r
+      ∙ sym (after-more (r .number) _ (r .named) _ _ piece seen (r .says) ∙ after-refused seen r))
+      (clean-or-refused seen)
+
+  -- finish
+  finish-open : Clean seen → said (finishOf (openAt seen .state) .answer) ≡ finishVerdict seen
+  unfolding finishOf
+  finish-open c =
+      rw (open-ranged c)
+      (unfold openOf verdictOf in
+      rw (finish-clean seen c, finished-last seen)
+      (split (eqb (last (rows seen)) row9999) (λ t. unfold said in rw t) (λ t. unfold said in rw (t, add-one))))
+
+  finish-stopped : (r : Refused seen)
+      → said (finishOf (stoppedAt (r .before) (r .number) (r .named) .state) .answer) ≡ finishVerdict seen
+  unfolding finishOf
+  finish-stopped r =
+      rw (stopped-ranged r)
+      (unfold stoppedOf verdictOf keptOf said in
+      rw (ne-eqb (r .number) 0 (λ z. omega (arith, refused-number seen r .0)), finish-refused seen _ _ _ _ _ (r .says), add-one (length (lines (r .before))), add-one (length (r .before))))
+
+  pub finish-after : said (finishOf (checkedAfter seen .state) .answer) ≡ finishVerdict seen
+  finish-after =
+      ⊎-elim (λ c. rw (after-clean seen c) (finish-open c)) (λ r. rw (after-refused seen r) (finish-stopped r)) (clean-or-refused seen)
+
+-- what it says: the answer is the verdict of the bytes received, the counts are those of the lines that stand
+module _ (seen : List ℕ) where
+  said-stopped : (r : Refused seen) → said (stoppedAt (r .before) (r .number) (r .named) .answer) ≡ verdict seen
+  unfolding stoppedOf said
+  said-stopped r = rw (r .says, add-one (length (lines (r .before))), add-one (length (r .before)))
+
+  said-open : Clean seen → said (openAt seen .answer) ≡ verdict seen
+  unfolding openOf said
+  said-open c = sym c
+
+  pub said-after : said (checkedAfter seen .answer) ≡ verdict seen
+  said-after =
+      ⊎-elim (λ c. rw (after-clean seen c) (said-open c)) (λ r. rw (after-refused seen r) (said-stopped r)) (clean-or-refused seen)
+
+  pub counts-after : checkedAfter seen .state .counts ≡ counts seen
+  unfolding checkedAfter counts
+  counts-after = go (verdict seen)
+    where
+      go : (v : Verdict) → checkedBy v (standing seen) .state .counts ≡ countsOfRows (rows (standing seen))
+      go (stillOpen l n) = unfold checkedBy openOf in refl
+      go (refused n line f l k) = unfold checkedBy stoppedOf in refl
+      go (accepted l n) = unfold checkedBy openOf in refl
+
+  pub open-after : checkedAfter seen .state .finished ≡ false
+  unfolding checkedAfter
+  open-after = go (verdict seen)
+    where
+      go : (v : Verdict) → checkedBy v (standing seen) .state .finished ≡ false
+      go (stillOpen l n) = unfold checkedBy openOf in refl
+      go (refused n line f l k) = unfold checkedBy stoppedOf in refl
+      go (accepted l n) = unfold checkedBy openOf in refl

@@ -1,0 +1,60 @@
+use Prim.Native.Nat.{_≤_}
+use borrow.Author.Needs.{needs}
+use mathlib.Core.Path.{_≡_, refl, _∙_, sym, ap}
+use native.Mathlib.Omega.{arith}
+use Rattle.layout.specs.Rows.{rowCount}
+use Rattle.sef.specs.Calls.{withinTo}
+use Rattle.sef.proofs.RangeLaws.{within-on, within-off}
+use Rattle.sef.proofs.ranges.within.Statement.{statement}
+use Rattle.sef.proofs.ranges.within.Tie as tie
+
+abbrev Inv-loop : tie.InvT-loop
+Inv-loop array m i₀ i = (i ≤ rowCount) × (withinTo m array rowCount ≡ withinTo m array i)
+
+abbrev μ-loop : tie.MeasureT-loop
+μ-loop array m i₀ i = i
+
+loop-holds : tie.Need-loop-holds Inv-loop μ-loop
+loop-holds c = (search needs, refl)
+
+sub-i : tie.Need-sub-i Inv-loop μ-loop
+sub-i c = search needs
+
+mul-if1 : tie.Need-mul-if1 Inv-loop μ-loop
+mul-if1 c = search needs
+
+element-copy-out-if1 : tie.Need-element-copy-out-if1 Inv-loop μ-loop
+element-copy-out-if1 c = search needs
+
+returns : tie.Need-returns Inv-loop μ-loop
+returns c =
+    let at = c .before .before .before .loop in
+    sym (at .inv .1 ∙ within-off _ _ (at .i) (omega arith) (c .if1 .taken))
+
+loop-less : tie.Need-loop-less Inv-loop μ-loop
+loop-less c = search needs
+
+loop-again : tie.Need-loop-again Inv-loop μ-loop
+loop-again c =
+    let at = c .before .before .before .loop in
+    (omega arith, at .inv .1 ∙ within-on _ _ (at .i) (omega arith) (c .if1 .left))
+
+returns-2 : tie.Need-returns-2 Inv-loop μ-loop
+returns-2 c =
+    let e : c .before .loop .i ≡ 0 = omega arith in
+    sym (c .before .loop .inv .1 ∙ ap (withinTo _ _) e ∙ unfold withinTo in refl)
+
+pub within-spec : {M : Type 1} → statement M
+within-spec =
+    tie.close
+    (tie.spec
+    Inv-loop
+    μ-loop
+    loop-holds
+    sub-i
+    mul-if1
+    element-copy-out-if1
+    returns
+    loop-less
+    loop-again
+    returns-2)

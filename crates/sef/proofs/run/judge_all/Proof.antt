@@ -1,0 +1,92 @@
+use Prim.Native.Nat.{_-_}
+use borrow.Author.Needs.{needs}
+use mathlib.Core.Path.{_∙_, sym}
+use native.Mathlib.Omega.{arith}
+use lib.ListN.{length}
+use Rattle.sef.proofs.RunLaws.{Going, run-stop, run-end, going-next}
+use Rattle.sef.proofs.run.judge_all.Statement.{statement}
+use Rattle.sef.proofs.run.judge_all.Tie as tie
+
+abbrev Inv-loop : tie.InvT-loop
+Inv-loop rows parents kinds starts slots piece h₀ counts₀ stamps₀ occurrences₀ i₀ h counts stamps occurrences i =
+    Going piece h₀ counts₀ stamps₀ occurrences₀ h counts stamps occurrences i
+
+abbrev μ-loop : tie.MeasureT-loop
+μ-loop rows parents kinds starts slots piece h₀ counts₀ stamps₀ occurrences₀ i₀ h counts stamps occurrences i =
+    length piece - i
+
+loop-holds : tie.Need-loop-holds Inv-loop μ-loop
+loop-holds c = search needs
+
+shared-slice-read-b : tie.Need-shared-slice-read-b Inv-loop μ-loop
+shared-slice-read-b c = search needs
+
+judge-requires : tie.Need-judge-requires Inv-loop μ-loop
+judge-requires c κs = search needs
+
+enum-known-t : tie.Need-enum-known-t Inv-loop μ-loop
+enum-known-t c = search needs
+
+enum-told : tie.Need-enum-told Inv-loop μ-loop
+enum-told c = search needs
+
+refused-requires : tie.Need-refused-requires Inv-loop μ-loop
+refused-requires c κs = search needs
+
+returns : tie.Need-returns Inv-loop μ-loop
+returns c =
+    let judged = c .before .before .before in
+    let turn = judged .before .before .before .before in
+    let at = turn .before .loop in
+    let stops = run-stop _ _ _ _ _ (at .i) (turn .loop-test .taken) in
+    c .refused .ensures ∙ sym (at .inv .same ∙ stops _ _ _ (judged .judge .ensures) (c .before .enum-told .given .1))
+
+noted-requires : tie.Need-noted-requires Inv-loop μ-loop
+noted-requires c κs = search needs
+
+add-i : tie.Need-add-i Inv-loop μ-loop
+add-i c =
+    let turn = c .before .before .before .before .before .before .before .before .before .before .before in
+    omega (arith, turn .loop-test .taken, turn .before .before .before .good)
+
+loop-less : tie.Need-loop-less Inv-loop μ-loop
+loop-less c = search needs
+
+loop-again : tie.Need-loop-again Inv-loop μ-loop
+loop-again c =
+    let told = c .before .before .before .before .before in
+    let judged = told .before .before in
+    let turn = judged .before .before .before .before in
+    let at = turn .before .loop in
+    let byte = turn .before .before .shared-slice-known .given (at .i) in
+    let goes = sym (judged .judge .ensures) ∙ told .t .given .1 in
+    let e = c .noted .ensures in
+    going-next (at .inv) (turn .loop-test .taken) (byte .fits) _ goes _ _ _ (e .0) (e .1 .0) (e .1 .1)
+
+opened-requires : tie.Need-opened-requires Inv-loop μ-loop
+opened-requires c κs = search needs
+
+returns-2 : tie.Need-returns-2 Inv-loop μ-loop
+returns-2 c =
+    let at = c .before .before .loop in
+    c .opened .ensures ∙ sym (at .inv .same ∙ run-end _ _ _ _ _ (at .i) (c .before .loop-test .left) (at .inv .within))
+
+pub judge-all-spec : {M : Type 1} → statement M
+judge-all-spec =
+    tie.close
+    (tie.spec
+    Inv-loop
+    μ-loop
+    loop-holds
+    shared-slice-read-b
+    judge-requires
+    enum-known-t
+    enum-told
+    refused-requires
+    returns
+    noted-requires
+    add-i
+    loop-less
+    loop-again
+    opened-requires
+    returns-2)

@@ -1,0 +1,136 @@
+// The bytes of a piece, one after the other.
+ghost use mathlib.Core.Path.{_≡_};
+ghost use Rattle.layout.specs.Packed.{parentColumn};
+ghost use Rattle.line.specs.Machine.{Tables};
+ghost use Rattle.sef.specs.Calls.{Held, setOf, countsOf, stampsOf, occurrencesOf, runOf};
+use crate::state::Checked;
+use crate::state::opened;
+use crate::state::refused;
+use layout::codes::SLOTS;
+use layout::kinds::FIELDS;
+use layout::rows::ENTRIES;
+use layout::rows::ROWS;
+use line::hot::Hot;
+use line::order::entry;
+use line::order::used;
+use line::step::LF;
+use line::step::Step;
+use line::step::judge;
+
+// An array's entry at a row is set; of no row nothing is.
+fn put(array: &mut [u64; ROWS], r: usize, v: u64)
+    ensures { λ _. ⌜ now (array .exit) ≡ setOf (now (array .entry)) r v ⌝ }
+{
+    if r < ROWS {
+        array[r] = v;
+    }
+}
+
+// The arrays after a byte that was accepted: LF ends the line at hand, the file's line n.
+fn noted(
+    parents: &[usize; ENTRIES],
+    h: Hot,
+    n: u64,
+    b: u8,
+    counts: &mut [u64; ROWS],
+    stamps: &mut [u64; ROWS],
+    occurrences: &mut [u64; ROWS],
+)
+    requires { ⌜ now parents ≡ parentColumn ⌝ }
+    requires { ⌜ Held h (now counts) (now stamps) (now occurrences) ⌝ }
+    ensures { λ _. ⌜ now (counts .exit) ≡ countsOf h b (now (counts .entry)) ⌝ }
+    ensures { λ _. ⌜ now (stamps .exit) ≡ stampsOf h n b (now (stamps .entry)) ⌝ }
+    ensures { λ _. ⌜ now (occurrences .exit) ≡ occurrencesOf h b (now (stamps .entry)) (now (occurrences .entry)) ⌝ }
+{
+    if b == LF {
+        let r = h.row;
+        let under = used(parents, stamps, occurrences, r);
+        let ended = entry(counts, r);
+        put(counts, r, ended + 1);
+        put(stamps, r, n);
+        put(occurrences, r, under + 1);
+    }
+}
+
+// A piece, from a state in which nothing is refused.
+fn judge_all(
+    rows: &[u64; ENTRIES],
+    parents: &[usize; ENTRIES],
+    kinds: &[u32; FIELDS],
+    starts: &[usize; ENTRIES],
+    slots: &[usize; SLOTS],
+    h0: Hot,
+    counts0: [u64; ROWS],
+    stamps0: [u64; ROWS],
+    occurrences0: [u64; ROWS],
+    piece: &[u8],
+) -> Checked
+    requires { ⌜ Tables (now rows) (now parents) (now kinds) (now starts) (now slots) ⌝ }
+    requires { ⌜ Held h0 counts0 stamps0 occurrences0 ⌝ }
+    ensures { λ r. ⌜ r ≡ runOf h0 counts0 stamps0 occurrences0 (now (piece .entry)) ⌝ }
+{
+    let mut h = h0;
+    let mut counts = counts0;
+    let mut stamps = stamps0;
+    let mut occurrences = occurrences0;
+    let mut i = 0;
+    while i < piece.len() {
+        let b = piece[i];
+        let t = judge(
+            h,
+            rows,
+            parents,
+            kinds,
+            starts,
+            slots,
+            &stamps,
+            &occurrences,
+            b,
+        );
+        let Step::Next(n) = t else {
+            return refused(t, h, counts, stamps, occurrences);
+        };
+        noted(
+            parents,
+            h,
+            n.lines,
+            b,
+            &mut counts,
+            &mut stamps,
+            &mut occurrences,
+        );
+        h = n;
+        i += 1;
+    }
+    opened(h, counts, stamps, occurrences)
+}
+
+// The same, with the tables: read once a piece, so that a look-up is a plain load.
+pub fn run(
+    h: Hot,
+    counts: [u64; ROWS],
+    stamps: [u64; ROWS],
+    occurrences: [u64; ROWS],
+    piece: &[u8],
+) -> Checked
+    requires { ⌜ Held h counts stamps occurrences ⌝ }
+    ensures { λ r. ⌜ r ≡ runOf h counts stamps occurrences (now (piece .entry)) ⌝ }
+{
+    let rows = layout::rows::table();
+    let parents = layout::parents::table();
+    let kinds = layout::kinds::table();
+    let starts = layout::kinds::starts();
+    let slots = layout::codes::slots();
+    judge_all(
+        &rows,
+        &parents,
+        &kinds,
+        &starts,
+        &slots,
+        h,
+        counts,
+        stamps,
+        occurrences,
+        piece,
+    )
+}
