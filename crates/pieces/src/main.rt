@@ -1,0 +1,155 @@
+// A batch of calls from standard input, for the comparison with the independent checker. Each command is a letter and a
+// four-byte length, lowest byte first; a piece's bytes follow it. N: a new file; P: a piece; F: finish; C: report; S: a report with
+// room for too few counts. Each answer is a line.
+use layout::rows::ROWS;
+use libc::STDIN_FILENO;
+use libc::STDOUT_FILENO;
+use sef::calls::Reported;
+use sef::state::Answer;
+use sef::state::State;
+
+// A command's letter and length.
+const HEAD: usize = 5;
+
+fn number(n: u64) {
+    io::write_all(STDOUT_FILENO, b" ");
+    io::print_decimal(STDOUT_FILENO, n);
+}
+
+fn end() {
+    io::write_all(STDOUT_FILENO, b"\n");
+}
+
+fn refused(n: u64, line: u64, field: u64, lines: u64, bytes: u64) {
+    io::write_all(STDOUT_FILENO, b"refused");
+    number(n);
+    number(line);
+    number(field);
+    number(lines);
+    number(bytes);
+    end();
+}
+
+fn stands(name: &[u8], lines: u64, bytes: u64) {
+    io::write_all(STDOUT_FILENO, name);
+    number(lines);
+    number(bytes);
+    end();
+}
+
+fn print(answer: Answer) {
+    match answer {
+        Answer::Open(lines, bytes) => stands(b"open", lines, bytes),
+        Answer::Accepted(lines, bytes) => stands(b"accepted", lines, bytes),
+        Answer::Refused(n, line, field, lines, bytes) => refused(n, line, field, lines, bytes),
+        Answer::Late => refused(17, 0, 0, 0, 0),
+        Answer::Damaged => refused(19, 0, 0, 0, 0),
+    }
+}
+
+fn wide(b: u8) -> usize {
+    b as usize
+}
+
+// The length that a command states.
+fn stated(head: &[u8; HEAD]) -> usize {
+    let low = wide(head[1]) % 256 + wide(head[2]) % 256 * 256;
+    let high = wide(head[3]) % 256 + wide(head[4]) % 256 * 256;
+    low + high * 65536
+}
+
+fn print_counts(counts: &[u64; ROWS]) {
+    io::write_all(STDOUT_FILENO, b"counts");
+    for i in 0..ROWS {
+        number(counts[i]);
+    }
+    end();
+}
+
+fn report(s: State) {
+    let mut counts = [0u64; ROWS];
+    let told = sef::calls::report(s, &mut counts);
+    match told {
+        Reported::Written => print_counts(&counts),
+        Reported::NoRoom => refused(18, 0, 0, 0, 0),
+        Reported::Unfit => refused(19, 0, 0, 0, 0),
+    }
+}
+
+// A report with room for one count too few.
+fn no_room(s: State) {
+    let mut counts = [0u64; 97];
+    let told = sef::calls::report(s, &mut counts);
+    if let Reported::NoRoom = told {
+        io::write_all(STDOUT_FILENO, b"room 18\n");
+    }
+}
+
+// The piece's bytes, read to the block's start.
+fn read_piece(block: &mut [u8], n: usize) -> bool {
+    if block.len() < n {
+        return false;
+    }
+    io::read_full(STDIN_FILENO, &mut block[..n]) == n
+}
+
+fn check(s: State, block: &[u8], n: usize) -> State {
+    if block.len() < n {
+        return s;
+    }
+    let checked = sef::calls::check(s, &block[..n]);
+    let answer = checked.answer;
+    print(answer);
+    let next = checked.state;
+    next
+}
+
+fn piece(s: State, block: &mut [u8], n: usize) -> State {
+    if read_piece(block, n) {
+        return check(s, block, n);
+    }
+    s
+}
+
+fn finish(s: State) -> State {
+    let checked = sef::calls::finish(s);
+    let answer = checked.answer;
+    print(answer);
+    let next = checked.state;
+    next
+}
+
+fn obey(letter: u8, n: usize, s: State, block: &mut [u8]) -> State {
+    if letter == b'N' {
+        return sef::calls::start();
+    }
+    if letter == b'P' {
+        return piece(s, block, n);
+    }
+    if letter == b'F' {
+        return finish(s);
+    }
+    if letter == b'C' {
+        report(s);
+    }
+    if letter == b'S' {
+        no_room(s);
+    }
+    s
+}
+
+// A proved loop has to end: it counts down, from a number that no run uses up.
+fn main() {
+    let mut state = sef::calls::start();
+    let mut block = io::large_buffer();
+    let mut turns = u64::MAX;
+    while turns > 0 {
+        let mut head = [0u8; HEAD];
+        if io::read_full(STDIN_FILENO, &mut head) < HEAD {
+            return;
+        }
+        let n = stated(&head);
+        state = obey(head[0], n, state, &mut block);
+        turns -= 1;
+    }
+}
