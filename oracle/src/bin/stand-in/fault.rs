@@ -1,0 +1,98 @@
+//! The faults, each the honest behaviour with one thing other.
+
+use crate::{counts, forgives, joins, says, sees};
+use oracle::Answer;
+
+pub struct Fault {
+    pub name: &'static str,
+    /// How a piece is joined to the bytes it judges.
+    pub join: fn(&mut Vec<u8>, &[u8]),
+    /// The bytes it takes them for.
+    pub sees: fn(&[u8]) -> Vec<u8>,
+    /// What it says, given all bytes and the answer for those it saw.
+    pub says: fn(&[u8], Answer) -> Answer,
+    /// Its report, given the bytes it saw and whether finish was asked.
+    pub counts: fn(&[u8], bool) -> [u64; 98],
+    /// Whether a finish with this answer is the last.
+    pub ends_with: fn(&Answer) -> bool,
+    pub room_number: u8,
+    pub short_report_clears: bool,
+    pub stays_finished: bool,
+    pub takes_after_finish: bool,
+}
+
+const NONE: Fault = Fault {
+    name: "",
+    join: |joined, piece| joined.extend_from_slice(piece),
+    sees: <[u8]>::to_vec,
+    says: |_, answer| answer,
+    counts: |bytes, _| oracle::counts(bytes),
+    ends_with: |_| true,
+    room_number: 18,
+    short_report_clears: false,
+    stays_finished: false,
+    takes_after_finish: false,
+};
+
+const fn joining(name: &'static str, join: fn(&mut Vec<u8>, &[u8])) -> Fault {
+    Fault { name, join, says: says::with_true_numbers, ..NONE }
+}
+
+const fn seeing(name: &'static str, sees: fn(&[u8]) -> Vec<u8>) -> Fault {
+    Fault { name, sees, ..NONE }
+}
+
+const fn saying(name: &'static str, says: fn(&[u8], Answer) -> Answer) -> Fault {
+    Fault { name, says, ..NONE }
+}
+
+const fn counting(name: &'static str, counts: fn(&[u8], bool) -> [u64; 98]) -> Fault {
+    Fault { name, counts, ..NONE }
+}
+
+pub const FAULTS: [Fault; 44] = [
+    joining("loses-cr", joins::without_last_cr),
+    joining("loses-cr-at-empty-piece", joins::cr_lost_at_empty_piece),
+    joining("loses-code", joins::code_lost),
+    joining("loses-field", joins::field_lost),
+    Fault { name: "first-piece-only", join: joins::first_only, says: says::open_for_14, ..NONE },
+    seeing("wraps-8", sees::wrapped::<8>),
+    seeing("wraps-16", sees::wrapped::<16>),
+    seeing("wraps-32", sees::wrapped::<32>),
+    seeing("wraps-64", sees::wrapped::<64>),
+    seeing("long-count-untrue", sees::long_count_untrue),
+    seeing("127-is-control", sees::byte_127_as_control),
+    seeing("159-is-control", sees::byte_159_as_control),
+    seeing("255-is-control", sees::byte_255_as_control),
+    seeing("31-is-allowed", sees::byte_31_as_space),
+    seeing("colon-is-digit", sees::colon_as_digit),
+    seeing("29-feb-1900", sees::leap_1900),
+    seeing("no-29-feb-2000", sees::no_leap_2000),
+    seeing("lower-case-codes", sees::lower_case_codes),
+    seeing("any-case-brasil", sees::any_case_brasil),
+    saying("counts-over-file", says::counts_over_file),
+    saying("refuses-990th", says::refuses_990th),
+    saying("allows-991st", forgives::allows_991st),
+    saying("any-parent", forgives::any_parent),
+    saying("text-of-256", forgives::text_of_256),
+    saying("lf-after-bar-is-2", says::lf_after_bar_is_2),
+    saying("control-after-fields-is-2", says::control_after_fields_is_2),
+    saying("byte-26-at-end", forgives::byte_26_at_end),
+    saying("closing-after-0", forgives::closing_after_0),
+    saying("refusal-moves-on", says::refusal_moves_on),
+    saying("line-of-14", says::line_of_14),
+    saying("missing-field-last", says::missing_field_last),
+    saying("empty-count-stands", forgives::empty_count_stands),
+    counting("counts-line-at-hand", counts::line_at_hand),
+    counting("counts-cleared-by-finish", counts::none_after_finish),
+    counting("counts-at-cr", counts::at_cr),
+    counting("counts-in-16-bits", counts::in_16_bits),
+    Fault { name: "forgets-17", ends_with: |_| false, ..NONE },
+    Fault { name: "goes-on-after-14", ends_with: says::is_not_14, ..NONE },
+    Fault { name: "room-17", room_number: 17, ..NONE },
+    Fault { name: "short-report-clears", short_report_clears: true, ..NONE },
+    Fault { name: "stays-finished", stays_finished: true, ..NONE },
+    Fault { name: "takes-after-finish", takes_after_finish: true, ..NONE },
+    saying("accepts-all", forgives::accepts_all),
+    saying("refuses-all", says::refuses_all),
+];

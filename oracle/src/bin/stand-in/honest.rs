@@ -1,0 +1,35 @@
+//! No fault: every command goes to the oracle's checker.
+
+use crate::Answers;
+use oracle::compare::{answer_text, counts_text, room_text, Command};
+use oracle::{Answer, Checker};
+
+#[derive(Default)]
+pub struct Honest {
+    checker: Checker,
+}
+
+impl Answers for Honest {
+    fn answer(&mut self, command: &Command) -> Option<String> {
+        match command {
+            Command::New => {
+                self.checker = Checker::default();
+                None
+            }
+            Command::Piece(piece) => Some(answer_text(self.checker.piece(piece))),
+            Command::Finish => Some(answer_text(self.checker.finish())),
+            Command::Counts => Some(self.report(98)),
+            Command::ShortCounts => Some(self.report(97)),
+        }
+    }
+}
+
+impl Honest {
+    fn report(&self, places: usize) -> String {
+        let mut room = vec![0; places];
+        match self.checker.report(&mut room) {
+            Some(Answer::Refused { number, .. }) => room_text(number),
+            _ => counts_text(&room),
+        }
+    }
+}

@@ -1,0 +1,72 @@
+//! stand-in [FAULT]: stands in for the program under test, to test the
+//! comparison itself. It answers with the oracle's own checker, or with a
+//! fault planted. `stand-in --faults` lists the faults.
+
+mod counts;
+mod fault;
+mod faulty;
+mod forgives;
+mod honest;
+mod joins;
+mod says;
+mod sees;
+
+use fault::FAULTS;
+use faulty::Faulty;
+use honest::Honest;
+use oracle::compare::Command;
+use std::io::{self, BufReader, BufWriter, Write};
+use std::process::ExitCode;
+
+/// Faults of the process, not of an answer.
+const OF_PROCESS: [&str; 5] =
+    ["ends-early", "one-line-more", "bad-status", "says-nothing", "no-last-lf"];
+
+trait Answers {
+    fn answer(&mut self, command: &Command) -> Option<String>;
+}
+
+fn main() -> io::Result<ExitCode> {
+    let name = std::env::args().nth(1).unwrap_or_default();
+    if name == "--faults" {
+        let names = FAULTS.iter().map(|fault| fault.name).chain(OF_PROCESS);
+        names.for_each(|name| println!("{name}"));
+        return Ok(ExitCode::SUCCESS);
+    }
+    match FAULTS.iter().find(|fault| fault.name == name) {
+        Some(fault) => serve(&mut Faulty::new(fault), &name),
+        None if name.is_empty() || OF_PROCESS.contains(&name.as_str()) => {
+            serve(&mut Honest::default(), &name)
+        }
+        None => {
+            eprintln!("stand-in: no fault {name}");
+            Ok(ExitCode::from(2))
+        }
+    }
+}
+
+fn serve(answers: &mut dyn Answers, name: &str) -> io::Result<ExitCode> {
+    let mut from = BufReader::new(io::stdin().lock());
+    let mut to = BufWriter::new(io::stdout().lock());
+    let mut answered = 0;
+    while let Some(command) = Command::read(&mut from)? {
+        let Some(text) = answers.answer(&command) else {
+            continue;
+        };
+        answered += 1;
+        match name {
+            "says-nothing" => {}
+            "no-last-lf" if answered > 1 => write!(to, "\n{text}")?,
+            "no-last-lf" => write!(to, "{text}")?,
+            _ => writeln!(to, "{text}")?,
+        }
+        if name == "ends-early" && answered == 5000 {
+            break;
+        }
+    }
+    if name == "one-line-more" {
+        writeln!(to, "open 0 0")?;
+    }
+    to.flush()?;
+    Ok(ExitCode::from(if name == "bad-status" { 3 } else { 0 }))
+}

@@ -1,0 +1,80 @@
+//! Base, the document's example file, and files with one thing changed in it.
+
+use crate::rows::{row_with_code, rows};
+
+pub const BASE: [&str; 6] = [
+    "|0000|LFPD|01012012|31012012|Loja Um|||||||||||Brasil|||||",
+    "|0001|1|",
+    "|0990|3|",
+    "|9001|1|",
+    "|9990|3|",
+    "|9999|6|",
+];
+
+/// A file fed in a case, and what it is about.
+#[derive(Clone)]
+pub struct File {
+    pub kind: String,
+    pub bytes: Vec<u8>,
+}
+
+pub fn file(kind: impl Into<String>, bytes: Vec<u8>) -> File {
+    File { kind: kind.into(), bytes }
+}
+
+/// Lines with CR LF after each.
+pub fn written<S: AsRef<str>>(lines: &[S]) -> Vec<u8> {
+    lines.iter().flat_map(|line| [line.as_ref().as_bytes(), b"\r\n"].concat()).collect()
+}
+
+pub fn base() -> Vec<u8> {
+    written(&BASE)
+}
+
+/// Base with a line (counted from 1) replaced, its end included.
+pub fn base_with(line: usize, bytes: &[u8]) -> Vec<u8> {
+    [&written(&BASE[..line - 1]), bytes, &written(&BASE[line..])].concat()
+}
+
+/// Base with a field (counted from 1) of a line replaced.
+pub fn base_field(line: usize, field: usize, value: &[u8]) -> Vec<u8> {
+    let mut parts: Vec<&[u8]> = BASE[line - 1].as_bytes().split(|&byte| byte == b'|').collect();
+    parts[field] = value;
+    base_with(line, &[&parts.join(&b'|'), &b"\r\n"[..]].concat())
+}
+
+/// Base up to before this line, then these bytes.
+pub fn base_until(line: usize, bytes: &[u8]) -> Vec<u8> {
+    [&written(&BASE[..line - 1]), bytes].concat()
+}
+
+/// A line of the row with empty fields after field 1.
+pub fn bare(code: &str) -> String {
+    let row = row_with_code(code.as_bytes()).expect("a known code");
+    format!("|{code}{}", "|".repeat(rows()[row].fields))
+}
+
+/// A file that ends after these lines of a block, its opening saying 0.
+pub fn block_start(codes: &[&str]) -> Vec<u8> {
+    let block = &codes[0][..1];
+    let mut lines = vec![BASE[0].to_string()];
+    if block != "0" {
+        lines.extend([BASE[1].to_string(), BASE[2].to_string()]);
+    }
+    lines.push(format!("|{block}001|0|"));
+    lines.extend(codes.iter().map(|code| bare(code)));
+    written(&lines)
+}
+
+#[cfg(test)]
+mod tests {
+    use super::*;
+    use crate::{finish, Final};
+
+    #[test]
+    fn base_is_the_document_s() {
+        assert_eq!(finish(&base()), Final::Accepted { lines: 6, bytes: 110 });
+        assert_eq!(base_field(3, 2, b"3"), base());
+        assert_eq!(base_with(2, b"|0001|1|\r\n"), base());
+    }
+}

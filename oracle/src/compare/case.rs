@@ -1,0 +1,166 @@
+//! Cases, each the same for the same seed and number.
+
+use super::base::File;
+use super::chance::{chance_file, small_file};
+use super::command::Command;
+use super::cuts::{cut_file, cut_simply};
+use super::feed::commands;
+use super::sweep::swept_files;
+use crate::generate::Random;
+
+pub struct Case {
+    pub number: usize,
+    pub seed: u64,
+    pub kind: String,
+    pub commands: Vec<Command>,
+}
+
+/// What cases there are: every other one is of the swept files as long as
+/// they last, all others come by chance.
+pub struct Plan {
+    seed: u64,
+    swept: Vec<File>,
+}
+
+impl Plan {
+    pub fn new(seed: u64) -> Self {
+        let swept = swept_files(&mut mixed(seed));
+        Plan { seed, swept }
+    }
+
+    /// How many cases it takes to have all swept files among them.
+    pub fn full(&self) -> usize {
+        2 * self.swept.len()
+    }
+
+    pub fn case(&self, number: usize) -> Case {
+        let seed = self.case_seed(number);
+        let mut random = Random::from_seed(seed);
+        let file = match (number % 2, self.swept.get(number / 2)) {
+            (0, Some(file)) => file.clone(),
+            _ => chance_file(&mut random),
+        };
+        // there are so many pairs that few of them can be fed at length
+        let simple = file.kind.starts_with("pair") && random.percent(90);
+        made_case(number, seed, file, random, simple)
+    }
+
+    /// A case for a stored run: its file small, few rounds.
+    pub fn small_case(&self, number: usize) -> Case {
+        let seed = self.case_seed(number);
+        let mut random = Random::from_seed(seed);
+        let small: Vec<&File> = self.swept.iter().filter(|file| file.bytes.len() <= 400).collect();
+        let file = match number % 2 {
+            0 => small[number / 2 % small.len()].clone(),
+            _ => small_file(&mut random, 400),
+        };
+        let simple = random.percent(50);
+        made_case(number, seed, file, random, simple)
+    }
+
+    fn case_seed(&self, number: usize) -> u64 {
+        mixed(self.seed ^ mixed(number as u64).number()).number()
+    }
+}
+
+/// The seeds of neighbours are neighbours, so they are mixed before use.
+fn mixed(seed: u64) -> Random {
+    Random::from_seed(Random::from_seed(seed).number())
+}
+
+fn made_case(number: usize, seed: u64, file: File, mut random: Random, simple: bool) -> Case {
+    let (way, rounds) = match simple {
+        true => cut_simply(&mut random, &file.bytes),
+        false => cut_file(&mut random, &file.bytes),
+    };
+    let long_end = !simple || random.percent(10);
+    let commands = commands(&mut random, &file.bytes, rounds, long_end);
+    Case { number, seed, kind: format!("{}; {way}", file.kind), commands }
+}
+
+#[cfg(test)]
+mod tests {
+    use super::*;
+    use crate::compare::options::DEFAULT_CASES;
+    use crate::compare::{expected_texts, LONGEST_PIECE};
+
+    fn cases() -> impl Iterator<Item = Case> {
+        let plan = Plan::new(5);
+        (0..3000).map(move |number| plan.case(number))
+    }
+
+    /// Commands of the case with their answers, `New` with none.
+    fn answered(case: &Case) -> Vec<(&Command, String)> {
+        let mut texts = expected_texts(&case.commands).into_iter();
+        let text = |command: &Command| if command.is_answered() { texts.next() } else { None };
+        let texts: Vec<String> =
+            case.commands.iter().map(text).map(Option::unwrap_or_default).collect();
+        case.commands.iter().zip(texts).collect()
+    }
+
+    #[test]
+    fn what_is_asked_of_files() {
+        let (mut empty, mut short, mut repeated, mut late, mut changed) = (0, 0, 0, 0, 0);
+        for case in cases() {
+            let answered = answered(&case);
+            let is_piece = |command: &Command| matches!(command, Command::Piece(_));
+            for pair in answered.windows(2) {
+                let [(first, said), (second, says)] = pair else { unreachable!() };
+                let pieces = is_piece(first) && is_piece(second);
+                empty += usize::from(**second == Command::Piece(Vec::new()));
+                short += usize::from(**first == Command::ShortCounts && is_piece(second));
+                repeated += usize::from(pieces && said.starts_with("refused") && said == says);
+                late += usize::from(is_piece(second) && says.starts_with("refused 17"));
+                changed +=
+                    usize::from(pieces && said.starts_with("open") && says.starts_with("refused"));
+            }
+        }
+        for number in [empty, short, repeated, late, changed] {
+            assert!(number > 100, "{empty} {short} {repeated} {late} {changed}");
+        }
+    }
+
+    #[test]
+    fn ways_of_cutting() {
+        let ways = [
+            "one byte pieces",
+            "two pieces at every cut",
+            "random cuts",
+            "two pieces at some cuts",
+            "cut finely where it is decided",
+            "whole",
+            "two pieces",
+        ];
+        let kinds: Vec<String> = cases().map(|case| case.kind).collect();
+        for way in ways {
+            let count = kinds.iter().filter(|kind| kind.ends_with(&format!("; {way}"))).count();
+            assert!(count > 50, "{way}: {count}");
+        }
+    }
+
+    #[test]
+    fn long_files_have_pieces_of_the_greatest_length() {
+        let plan = Plan::new(5);
+        let long = |number: &usize| plan.swept[number / 2].bytes.len() > 200_000;
+        let cases: Vec<Case> =
+            (0..plan.full()).step_by(2).filter(long).map(|number| plan.case(number)).collect();
+        let longest = |command: &Command| command.length() == LONGEST_PIECE;
+        assert_eq!(cases.len(), 3);
+        assert!(cases.iter().all(|case| case.commands.iter().any(longest)));
+    }
+
+    #[test]
+    fn a_run_has_all_swept_files_if_no_number_is_given() {
+        assert!(Plan::new(1).full() <= DEFAULT_CASES);
+    }
+
+    #[test]
+    fn cases_are_the_same_again() {
+        let (one, other) = (Plan::new(9), Plan::new(9));
+        for number in [0, 1, 2, 77, 1000, 60_000] {
+            assert_eq!(one.case(number).commands, other.case(number).commands);
+            assert_eq!(one.small_case(number).commands, other.small_case(number).commands);
+        }
+        assert_ne!(one.case(1).commands, Plan::new(10).case(1).commands);
+    }
+}

@@ -1,0 +1,145 @@
+//! Ways to cut a file into pieces. A way may feed the file in several
+//! rounds, each cut differently.
+
+use super::command::LONGEST_PIECE;
+use crate::generate::{pieces, Random};
+use crate::{verdict, Verdict, CR};
+
+pub type Pieces = Vec<Vec<u8>>;
+
+/// Files up to this length are cut at every byte.
+const SHORT: usize = 150;
+
+/// About how many bytes the oracle may judge for one case, pieces joined anew
+/// for each answer.
+const JUDGED: usize = 40_000;
+
+/// Rounds of a way chosen by chance, and its name.
+pub fn cut_file(random: &mut Random, bytes: &[u8]) -> (&'static str, Vec<Pieces>) {
+    let chance = random.below(100);
+    match (bytes.len() <= SHORT, chance) {
+        (true, 0..=29) => ("one byte pieces", vec![one_byte_pieces(bytes)]),
+        (true, 30..=37) => ("two pieces at every cut", every_cut(bytes)),
+        (_, 0..=54) => ("random cuts", vec![random_cuts(random, bytes)]),
+        (_, 55..=69) => ("two pieces at some cuts", some_cuts(random, bytes)),
+        (false, 70..=84) => ("cut finely where it is decided", vec![fine_cuts(random, bytes)]),
+        _ => ("whole", vec![whole(random, bytes)]),
+    }
+}
+
+/// One round, whole or in two pieces.
+pub fn cut_simply(random: &mut Random, bytes: &[u8]) -> (&'static str, Vec<Pieces>) {
+    if random.percent(60) {
+        return ("whole", vec![whole(random, bytes)]);
+    }
+    let cut = cut_place(random, bytes);
+    ("two pieces", vec![cut_at(bytes, &[cut])])
+}
+
+/// In one piece if it is short enough; no bytes are no piece or an empty one.
+fn whole(random: &mut Random, bytes: &[u8]) -> Pieces {
+    if bytes.is_empty() && random.percent(50) {
+        return Vec::new();
+    }
+    cut_at(bytes, &[])
+}
+
+/// Pieces between these places, which must be in order. Two places alike give
+/// an empty piece; what is longer than a piece can be is cut further.
+fn cut_at(bytes: &[u8], places: &[usize]) -> Pieces {
+    let mut pieces = Pieces::new();
+    let mut start = 0;
+    for &end in places.iter().chain([&bytes.len()]) {
+        let part = &bytes[start..end];
+        if part.is_empty() {
+            pieces.push(Vec::new());
+        }
+        pieces.extend(part.chunks(LONGEST_PIECE).map(<[u8]>::to_vec));
+        start = end;
+    }
+    pieces
+}
+
+fn one_byte_pieces(bytes: &[u8]) -> Pieces {
+    bytes.iter().map(|&byte| vec![byte]).collect()
+}
+
+fn every_cut(bytes: &[u8]) -> Vec<Pieces> {
+    (0..=bytes.len()).map(|cut| cut_at(bytes, &[cut])).collect()
+}
+
+/// Rounds of two pieces, some cut at or next to the byte that decides.
+fn some_cuts(random: &mut Random, bytes: &[u8]) -> Vec<Pieces> {
+    let rounds = (JUDGED / (bytes.len() + 1)).clamp(1, 8);
+    let decided = bytes_judged(bytes);
+    let near = [decided.saturating_sub(1), decided, (decided + 1).min(bytes.len())];
+    let cut = |random: &mut Random| match random.below(3) {
+        0 => *random.pick(&near),
+        _ => cut_place(random, bytes),
+    };
+    (0..rounds).map(|_| cut(random)).map(|place| cut_at(bytes, &[place])).collect()
+}
+
+fn random_cuts(random: &mut Random, bytes: &[u8]) -> Pieces {
+    if bytes.len() <= 200 {
+        return pieces(random.number(), bytes);
+    }
+    let most = (JUDGED / bytes.len()).clamp(1, 25);
+    let count = random.between(1, most);
+    let mut places: Vec<usize> = (0..count).map(|_| cut_place(random, bytes)).collect();
+    places.sort_unstable();
+    cut_at(bytes, &places)
+}
+
+/// One byte pieces around the byte that decides, long ones before and after.
+fn fine_cuts(random: &mut Random, bytes: &[u8]) -> Pieces {
+    let window = (JUDGED / bytes.len()).clamp(2, 40);
+    let decided = bytes_judged(bytes);
+    let start = decided.saturating_sub(random.between(1, window));
+    let end = (start + window).min(bytes.len());
+    cut_at(bytes, &(start..=end).collect::<Vec<usize>>())
+}
+
+/// Anywhere, or right after a CR or a bar.
+fn cut_place(random: &mut Random, bytes: &[u8]) -> usize {
+    let place = random.below(bytes.len() + 1);
+    let after = match random.below(10) {
+        0..=2 => CR,
+        3 => crate::BAR,
+        _ => return place,
+    };
+    bytes[place..].iter().position(|&byte| byte == after).map_or(place, |found| place + found + 1)
+}
+
+fn bytes_judged(bytes: &[u8]) -> usize {
+    match verdict(bytes) {
+        Verdict::Open { bytes, .. } | Verdict::Refused { bytes, .. } => bytes as usize,
+    }
+}
+
+#[cfg(test)]
+mod tests {
+    use super::*;
+    use crate::generate::case;
+
+    #[test]
+    fn all_rounds_join_to_the_file() {
+        for seed in 0..3000 {
+            let bytes = case(seed, if seed % 50 == 0 { 150_000 } else { 300 }).bytes;
+            let mut random = Random::from_seed(seed);
+            for (way, rounds) in [cut_file(&mut random, &bytes), cut_simply(&mut random, &bytes)] {
+                assert!(!rounds.is_empty());
+                for pieces in rounds {
+                    assert!(pieces.iter().all(|piece| piece.len() <= LONGEST_PIECE));
+                    assert_eq!(pieces.concat(), bytes, "{way}");
+                }
+            }
+        }
+    }
+
+    #[test]
+    fn empty_pieces() {
+        assert_eq!(cut_at(b"abc", &[0, 2, 2, 3]), [&b""[..], b"ab", b"", b"c", b""]);
+        assert_eq!(every_cut(b"ab").len(), 3);
+    }
+}

@@ -1,0 +1,101 @@
+//! The commands that feed a file: its pieces, and what is asked between
+//! and after them.
+
+use super::command::{Command, LONGEST_PIECE};
+use super::cuts::Pieces;
+use crate::generate::Random;
+use crate::{verdict, Verdict};
+
+/// Commands for all rounds. Only the last one has the long end.
+pub fn commands(
+    random: &mut Random,
+    bytes: &[u8],
+    rounds: Vec<Pieces>,
+    long_end: bool,
+) -> Vec<Command> {
+    let mut commands = Vec::new();
+    if random.percent(10) {
+        commands.extend(given_up(random, bytes));
+    }
+    let last = rounds.len() - 1;
+    for (number, pieces) in rounds.into_iter().enumerate() {
+        commands.push(Command::New);
+        let pieces = pieces.into_iter().map(Command::Piece).collect();
+        if number == last && long_end {
+            commands.extend(long_round(random, bytes, pieces));
+        } else {
+            commands.extend(short_round(random, pieces));
+        }
+    }
+    commands
+}
+
+/// A round that ends in the middle of the file with no finish.
+fn given_up(random: &mut Random, bytes: &[u8]) -> [Command; 2] {
+    let length = random.below(bytes.len().min(LONGEST_PIECE) + 1);
+    [Command::New, Command::Piece(bytes[..length].to_vec())]
+}
+
+fn short_round(random: &mut Random, mut commands: Vec<Command>) -> Vec<Command> {
+    if random.percent(50) {
+        commands.push(Command::Counts);
+    }
+    commands.push(Command::Finish);
+    if random.percent(50) {
+        commands.push(Command::Counts);
+    }
+    commands
+}
+
+fn long_round(random: &mut Random, bytes: &[u8], mut commands: Vec<Command>) -> Vec<Command> {
+    let refused = matches!(verdict(bytes), Verdict::Refused { .. });
+    if refused && random.percent(40) {
+        // the refusal must be repeated
+        for _ in 0..random.between(1, 3) {
+            commands.push(any_piece(random, bytes));
+        }
+    }
+    sprinkle(random, &mut commands, 25, Command::Counts);
+    sprinkle(random, &mut commands, 20, Command::ShortCounts);
+    sprinkle(random, &mut commands, 20, Command::Piece(Vec::new()));
+    // too early, so that pieces come after it
+    sprinkle(random, &mut commands, 12, Command::Finish);
+    commands.extend(end(random, bytes));
+    commands
+}
+
+/// Report, finish, report, then a piece and a finish too many, which must
+/// change nothing.
+fn end(random: &mut Random, bytes: &[u8]) -> Vec<Command> {
+    let mut commands = vec![
+        Command::Counts,
+        Command::Finish,
+        Command::Counts,
+        any_piece(random, bytes),
+        Command::Finish,
+        Command::Counts,
+    ];
+    sprinkle(random, &mut commands, 20, Command::ShortCounts);
+    sprinkle(random, &mut commands, 10, Command::Piece(Vec::new()));
+    commands
+}
+
+fn sprinkle(random: &mut Random, commands: &mut Vec<Command>, chance: usize, command: Command) {
+    if random.percent(chance) {
+        let place = random.below(commands.len() + 1);
+        commands.insert(place, command);
+    }
+}
+
+/// A piece where none is wanted any more.
+fn any_piece(random: &mut Random, bytes: &[u8]) -> Command {
+    let start = &bytes[..bytes.len().min(1000)];
+    Command::Piece(match random.below(6) {
+        0 => Vec::new(),
+        1 => b"|".to_vec(),
+        2 => b"\n".to_vec(),
+        3 => b"\r\n|0001|1|\r\n".to_vec(),
+        4 => start.to_vec(),
+        _ => random.text(5),
+    })
+}

@@ -1,0 +1,112 @@
+//! The document's own list of cases, and cases of the rules it leaves out.
+
+use super::base::{
+    base, base_field, base_until, base_with, block_start, file, written, File, BASE,
+};
+
+pub fn known_files() -> Vec<File> {
+    [whole_files(), second_lines(), field_values(), rows_in_place(), other_rules()].concat()
+}
+
+fn whole_files() -> Vec<File> {
+    let empty_h = [&BASE[..3], &["|H001|1|", "|H990|2|", "|E001|1|"]].concat();
+    vec![
+        file("Base", base()),
+        file("no bytes", Vec::new()),
+        file("Base with 0990 saying 2", base_field(3, 2, b"2")),
+        file("Base with 0990 saying 0003", base_field(3, 2, b"0003")),
+        file("Base with opening 0", base_field(2, 2, b"0")),
+        file("Base with 0025", base_with(2, b"|0001|1|\r\n|0025|||\r\n")),
+        file("block H, then E001", written(&empty_h)),
+        file("Base plus byte 26", [base(), vec![26]].concat()),
+        file("Base twice", [base(), base()].concat()),
+        file("Base with 9001 saying 0", base_field(4, 2, b"0")),
+    ]
+}
+
+fn second_lines() -> Vec<File> {
+    let lines: [&[u8]; 10] = [
+        b"|0001|\r\n",
+        b"|0001|1||\r\n",
+        b"|0001|1\r\n",
+        b"|0001|1|\n",
+        b"|0001|1|\r",
+        b"|0001|1|\r\r\n",
+        b"|0001|1|\rx",
+        b"|0001|1|x\r\n",
+        b"|0001|1|\x00\r\n",
+        b"0001|1|\r\n",
+    ];
+    lines
+        .map(|line| file(format!("second line {}", line.escape_ascii()), base_with(2, line)))
+        .to_vec()
+}
+
+fn field_values() -> Vec<File> {
+    let zeros = "0".repeat(300);
+    let (true_count, untrue_count) = (format!("{zeros}3"), format!("1{zeros}3"));
+    let values: [(usize, usize, &[u8]); 24] = [
+        (1, 3, b"29022012"),
+        (1, 3, b"29022011"),
+        (1, 3, b"29021900"),
+        (1, 3, b"29022000"),
+        (1, 3, b"2902201x"),
+        (1, 3, b"2902201"),
+        (1, 6, b"123456789000110"),
+        (1, 6, b"12345678900011"),
+        (1, 5, &[b'n'; 255]),
+        (1, 5, &[b'n'; 256]),
+        (1, 2, b"LFPX"),
+        (1, 2, b""),
+        (1, 16, b"brasil"),
+        (1, 16, b""),
+        (2, 2, b"2"),
+        (2, 2, b""),
+        (3, 2, b""),
+        (3, 2, b":"),
+        (3, 2, true_count.as_bytes()),
+        (3, 2, untrue_count.as_bytes()),
+        (5, 2, b"4294967299"),
+        (6, 2, b"18446744073709551622"),
+        (6, 2, b"262"),
+        (1, 5, b"\x1f"),
+    ];
+    let with = |(line, field, value): (usize, usize, &[u8])| {
+        let shown = value[..value.len().min(24)].escape_ascii();
+        let kind = format!("Base line {line} field {field}, {} bytes: {shown}", value.len());
+        file(kind, base_field(line, field, value))
+    };
+    values.map(with).to_vec()
+}
+
+fn rows_in_place() -> Vec<File> {
+    let lists: [&[&str]; 12] = [
+        &["0175"],
+        &["0150", "0175", "0175"],
+        &["0150", "0175", "0150", "0175"],
+        &["C020", "C300", "C305", "C310"],
+        &["C020", "C300", "C615"],
+        &["C600", "C610", "C615", "C610", "C615"],
+        &["F200", "F210", "F215", "F220", "F225", "F215", "F225"],
+        &["F200", "F210", "F215", "F220", "F225", "F215", "F220", "F225"],
+        &["E300", "E340", "E300", "E340"],
+        &["E300", "E340", "E305", "E340"],
+        &["H020", "H020", "H030", "H030"],
+        &["0005", "0025", "0005"],
+    ];
+    lists.map(|codes| file(format!("rows {}", codes.join(" ")), block_start(codes))).to_vec()
+}
+
+fn other_rules() -> Vec<File> {
+    vec![
+        file("a byte before the first bar", b" |0000|".to_vec()),
+        file("no such code", base_until(2, b"|8001|")),
+        file("code in lower case", base_until(4, b"|c001|")),
+        file("no code", base_until(2, b"||")),
+        file("a bar and CR", base_until(2, b"|\r")),
+        file("count with a letter", base_field(3, 2, b"3x")),
+        file("opening mark with a letter", base_field(2, 2, b"x")),
+        file("only a bar", b"|".to_vec()),
+        file("Base without its last byte", base()[..109].to_vec()),
+    ]
+}

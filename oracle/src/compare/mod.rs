@@ -1,0 +1,33 @@
+//! The comparison with a program under test: cases made from a seed, the
+//! answers this checker expects to each of their commands, and the run that
+//! feeds the program and compares all it answers.
+
+mod base;
+mod case;
+mod chance;
+mod command;
+mod cuts;
+mod difference;
+mod expected;
+mod feed;
+mod known;
+mod long_files;
+mod options;
+mod outcome;
+mod run;
+mod sweep;
+mod sweep_bytes;
+mod sweep_counts;
+mod sweep_fields;
+mod sweep_pairs;
+mod sweep_places;
+mod sweep_rows;
+mod text;
+
+pub use case::{Case, Plan};
+pub use command::{Command, LONGEST_PIECE};
+pub use expected::{expected_texts, first_final};
+pub use options::Options;
+pub use outcome::Outcome;
+pub use run::run;
+pub use text::{answer_text, counts_text, room_text};

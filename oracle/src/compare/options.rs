@@ -1,0 +1,56 @@
+//! The command line of `compare`.
+
+use std::path::PathBuf;
+
+pub const DEFAULT_CASES: usize = 42_000;
+
+#[derive(Debug, PartialEq, Eq)]
+pub struct Options {
+    /// Run with `sh -c`.
+    pub program: String,
+    pub seed: u64,
+    pub cases: usize,
+    /// Where cases that differ are saved.
+    pub keep: PathBuf,
+}
+
+impl Options {
+    pub fn read(words: impl IntoIterator<Item = String>) -> Option<Options> {
+        let mut words = words.into_iter();
+        let mut program = None;
+        let (mut seed, mut cases, mut keep) = (1, DEFAULT_CASES, PathBuf::from("target/compare"));
+        while let Some(word) = words.next() {
+            match word.as_str() {
+                "--seed" => seed = words.next()?.parse().ok()?,
+                "--cases" => cases = words.next()?.parse().ok()?,
+                "--keep" => keep = PathBuf::from(words.next()?),
+                _ if program.is_none() && !word.starts_with("--") => program = Some(word),
+                _ => return None,
+            }
+        }
+        Some(Options { program: program?, seed, cases, keep })
+    }
+}
+
+#[cfg(test)]
+mod tests {
+    use super::*;
+
+    fn read(line: &str) -> Option<Options> {
+        Options::read(line.split('_').map(String::from))
+    }
+
+    #[test]
+    fn command_lines() {
+        let program = "emulator ./pieces".to_string();
+        let keep = PathBuf::from("target/compare");
+        let plain = Options { program: program.clone(), seed: 1, cases: DEFAULT_CASES, keep };
+        assert_eq!(read("emulator ./pieces"), Some(plain));
+        let keep = PathBuf::from("kept");
+        let all = Options { program, seed: 7, cases: 30, keep };
+        assert_eq!(read("--seed_7_emulator ./pieces_--cases_30_--keep_kept"), Some(all));
+        for wrong in ["--seed_7", "a_b", "a_--seed", "a_--seed_x", "a_--other"] {
+            assert_eq!(read(wrong), None, "{wrong}");
+        }
+    }
+}

@@ -1,0 +1,101 @@
+//! All files that do not hang on chance, but for the contents around the
+//! thing in question.
+
+use super::base::File;
+use super::known::known_files;
+use super::long_files::{c300_files, long_files};
+use super::sweep_bytes::byte_files;
+use super::sweep_counts::count_files;
+use super::sweep_fields::field_files;
+use super::sweep_pairs::pair_files;
+use super::sweep_places::place_files;
+use super::sweep_rows::row_files;
+use crate::generate::Random;
+
+/// The known ones first, then all others in an order made by chance, so
+/// that a short run has some of every sort.
+pub fn swept_files(random: &mut Random) -> Vec<File> {
+    let mut others = [
+        row_files(random),
+        field_files(random),
+        count_files(random),
+        place_files(random),
+        long_files(),
+        byte_files(),
+        pair_files(),
+    ]
+    .concat();
+    for place in (1..others.len()).rev() {
+        others.swap(place, random.below(place + 1));
+    }
+    [known_files(), c300_files(random), others].concat()
+}
+
+#[cfg(test)]
+mod tests {
+    use super::*;
+    use crate::kinds::{kind, Kind};
+    use crate::rows::{row_with_code, rows};
+    use crate::{counts, finish, Final};
+    use std::collections::BTreeSet;
+
+    /// Number, row and field of every refusal that names a row, and the rows
+    /// with lines in accepted files.
+    fn what_comes_up() -> (BTreeSet<(u8, usize, u64)>, BTreeSet<usize>) {
+        let (mut refusals, mut accepted) = (BTreeSet::new(), BTreeSet::new());
+        for file in swept_files(&mut Random::from_seed(1)) {
+            let bytes = &file.bytes;
+            match finish(bytes) {
+                Final::Refused { number, field, bytes: judged, .. } => {
+                    let line =
+                        bytes[..judged as usize].split(|&byte| byte == crate::LF).next_back();
+                    let row = line.and_then(|line| row_with_code(line.get(1..5)?));
+                    refusals.extend(row.map(|row| (number, row, field)));
+                }
+                Final::Accepted { .. } => {
+                    accepted.extend((0..98).filter(|&row| counts(bytes)[row] > 0))
+                }
+            }
+        }
+        (refusals, accepted)
+    }
+
+    /// The numbers a field of this kind can be refused with.
+    fn numbers_of(kind: &Kind) -> Vec<u8> {
+        let special = kind.is_date() || kind.is_opening_mark() || kind.fixed.is_some();
+        let mut numbers = Vec::new();
+        numbers.extend(kind.numeric.then_some(10));
+        numbers.extend((!kind.numeric || kind.size.is_some()).then_some(11));
+        numbers.extend(special.then_some(12));
+        numbers.extend(kind.is_count().then_some(13));
+        numbers
+    }
+
+    fn wanted_of_row(place: usize) -> Vec<(u8, usize, u64)> {
+        let row = &rows()[place];
+        let fields = row.fields as u64;
+        let mut wanted = vec![(7, place, fields), (8, place, fields + 1)];
+        wanted.extend((row.code != "9999").then_some((4, place, 1)));
+        // deeper rows have no open parent right after an opening: 4 goes first
+        wanted.extend((row.level == 2 || row.is_closing()).then_some((5, place, 1)));
+        wanted.extend((row.is_data() && row.limit.is_some()).then_some((6, place, 1)));
+        for field in 2..=fields {
+            let kind = kind(place, field as usize);
+            let numbers = kind.map_or(Vec::new(), numbers_of);
+            wanted.extend(numbers.into_iter().map(|number| (number, place, field)));
+        }
+        wanted
+    }
+
+    #[test]
+    fn every_row_and_typed_field_is_refused_in_every_way() {
+        let (refusals, accepted) = what_comes_up();
+        assert_eq!(accepted.len(), 98);
+        let wanted = (0..98).flat_map(wanted_of_row);
+        let missing: Vec<String> = wanted
+            .filter(|refusal| !refusals.contains(refusal))
+            .map(|(number, row, field)| format!("{number} {} {field}", rows()[row].code))
+            .collect();
+        assert!(missing.is_empty(), "{missing:?}");
+    }
+}

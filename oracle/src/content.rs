@@ -1,0 +1,85 @@
+//! Rules 10 to 13: what a field of a typed line holds. All of them speak
+//! of the bar that ends the field.
+
+use crate::count::{expected_count, has_value};
+use crate::date::is_date;
+use crate::kinds::{kind, Kind};
+use crate::spot::Spot;
+use crate::BAR;
+
+/// C without a size.
+const LONGEST_TEXT: usize = 255;
+
+/// 10: wrong characters or decimals in an N field.
+pub fn wrong_characters(spot: &Spot) -> Option<usize> {
+    let kind = ended_kind(spot)?;
+    let breaks = kind.numeric && !spot.text.is_empty() && !is_number(spot.text, kind.decimals);
+    breaks.then_some(spot.field)
+}
+
+/// 11: wrong size.
+pub fn wrong_size(spot: &Spot) -> Option<usize> {
+    let kind = ended_kind(spot)?;
+    let length = spot.text.len();
+    let breaks = match (kind.numeric, kind.size) {
+        (true, Some(size)) => length != 0 && length != size,
+        (true, None) => false,
+        (false, size) => length > size.unwrap_or(LONGEST_TEXT),
+    };
+    breaks.then_some(spot.field)
+}
+
+/// 12: not the fixed text, field 2 of an opening not 0 or 1, no such date.
+pub fn wrong_value(spot: &Spot) -> Option<usize> {
+    let kind = ended_kind(spot)?;
+    let other_text = kind.fixed.is_some_and(|fixed| spot.text != fixed);
+    let no_mark = kind.is_opening_mark() && spot.text != b"0" && spot.text != b"1";
+    let no_date = kind.is_date() && !spot.text.is_empty() && !is_date(spot.text);
+    (other_text || no_mark || no_date).then_some(spot.field)
+}
+
+/// 13: count empty or untrue.
+pub fn untrue_count(spot: &Spot) -> Option<usize> {
+    if !ended_kind(spot)?.is_count() {
+        return None;
+    }
+    let true_count = expected_count(spot.line_row()?, spot.before);
+    (!has_value(spot.text, true_count)).then_some(spot.field)
+}
+
+/// The kind of the field that this byte's bar ends.
+fn ended_kind(spot: &Spot) -> Option<&'static Kind> {
+    if spot.byte == BAR && spot.in_field() {
+        kind(spot.row?, spot.field)
+    } else {
+        None
+    }
+}
+
+fn is_number(text: &[u8], decimals: Option<usize>) -> bool {
+    let digits = |part: &[u8]| part.iter().all(u8::is_ascii_digit);
+    let Some(decimals) = decimals else {
+        return digits(text);
+    };
+    let parts: Vec<&[u8]> = text.split(|&byte| byte == b',').collect();
+    match parts[..] {
+        [whole, rest] => !whole.is_empty() && digits(whole) && digits(rest) && rest.len() == decimals,
+        _ => false,
+    }
+}
+
+#[cfg(test)]
+mod tests {
+    use super::is_number;
+
+    // no typed line has a field with decimals, so the rule is tried here only
+    #[test]
+    fn numbers_with_decimals() {
+        for good in ["0,00", "1255,42", "00,10"] {
+            assert!(is_number(good.as_bytes(), Some(2)), "{good}");
+        }
+        for bad in [",00", "1,0", "1,000", "1.00", "1", "1,", "-1,00", "1,0,0", "1,00,"] {
+            assert!(!is_number(bad.as_bytes(), Some(2)), "{bad}");
+        }
+    }
+}

@@ -1,0 +1,49 @@
+//! Files with one field of a typed line at an edge (rules 10 to 12).
+
+use super::edge_values::edge_value;
+use super::random::Random;
+use super::tree::{good_file_with, TIGHT};
+use crate::kinds::kind;
+use crate::rows::rows;
+
+/// A typed line's field at an edge of its kind. Counts have their own cases.
+pub fn typed_field(random: &mut Random, room: usize) -> Vec<u8> {
+    let (row, field) = *random.pick(&edge_fields());
+    with_field_at_edge(random, room, row, field)
+}
+
+/// Dates and fixed texts of 0000.
+pub fn first_line(random: &mut Random, room: usize) -> Vec<u8> {
+    let field = *random.pick(&[2, 3, 3, 4, 4, 16]);
+    with_field_at_edge(random, room, 0, field)
+}
+
+/// Field 2 of an opening.
+pub fn opening_mark(random: &mut Random, room: usize) -> Vec<u8> {
+    let openings: Vec<usize> = (0..rows().len()).filter(|&row| rows()[row].is_opening()).collect();
+    let row = *random.pick(&openings);
+    let mut draft = good_file_with(random, room, row);
+    let place = draft.places_of(rows()[row].code.as_bytes())[0];
+    let values = ["", "2", "3", "4", "9", "00", "01", "10", "x", "xx", " ", "1 ", "0", "1", "\u{b2}"];
+    draft.lines[place].fields[1] = random.pick(&values).as_bytes().to_vec();
+    draft.write()
+}
+
+/// Row and field of every typed field, but for marks of openings and counts.
+pub fn edge_fields() -> Vec<(usize, usize)> {
+    let plain = |row: &usize| !rows()[*row].has_count() && !rows()[*row].is_opening();
+    (0..rows().len())
+        .filter(plain)
+        .flat_map(|row| (2..=rows()[row].fields).map(move |field| (row, field)))
+        .filter(|&(row, field)| kind(row, field).is_some())
+        .collect()
+}
+
+fn with_field_at_edge(random: &mut Random, room: usize, row: usize, field: usize) -> Vec<u8> {
+    // long values take most of the room of a small file
+    let room = if random.percent(70) { TIGHT } else { room.min(200) };
+    let mut draft = good_file_with(random, room, row);
+    let place = *random.pick(&draft.places_of(rows()[row].code.as_bytes()));
+    draft.lines[place].fields[field - 1] = edge_value(random, kind(row, field).unwrap());
+    draft.write()
+}

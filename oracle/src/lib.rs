@@ -1,0 +1,28 @@
+//! An independent checker of SEF/eDoc files, written from document 01 and
+//! the manual's Appendix B only. It reads the whole bytes received: cuts
+//! them into lines and fields, finds each line's parent among the lines
+//! before it, and asks for every byte which rules it breaks.
+
+pub mod compare;
+mod content;
+mod count;
+mod date;
+pub mod generate;
+pub mod kinds;
+mod lines;
+mod place;
+pub mod rows;
+mod rules;
+mod checker;
+mod shape;
+mod spot;
+mod verdict;
+
+pub use checker::{Answer, Checker};
+pub use verdict::{
+    counts, finish, judgement, verdict, verdict_within, Final, Judgement, Verdict, BYTE_LIMIT,
+};
+
+pub const BAR: u8 = 124;
+pub const CR: u8 = 13;
+pub const LF: u8 = 10;

@@ -1,0 +1,131 @@
+//! The verdict of the bytes received so far, and the final one.
+
+use crate::lines::Lines;
+use crate::rules::broken_rule;
+use crate::spot::LineAtHand;
+use crate::LF;
+
+/// The byte with this number is one too many (rule 16).
+pub const BYTE_LIMIT: u64 = 4_294_967_296;
+
+#[derive(Clone, Copy, Debug, PartialEq, Eq)]
+pub enum Verdict {
+    Open { lines: u64, bytes: u64 },
+    Refused { number: u8, line: u64, field: u64, lines: u64, bytes: u64 },
+}
+
+#[derive(Clone, Copy, Debug, PartialEq, Eq)]
+pub enum Final {
+    Accepted { lines: u64, bytes: u64 },
+    Refused { number: u8, line: u64, field: u64, lines: u64, bytes: u64 },
+}
+
+pub fn verdict(bytes: &[u8]) -> Verdict {
+    verdict_within(bytes, BYTE_LIMIT)
+}
+
+/// The verdict if byte number `limit` were the one too many.
+pub fn verdict_within(bytes: &[u8], limit: u64) -> Verdict {
+    judge(bytes, limit).verdict(bytes.len())
+}
+
+pub fn finish(bytes: &[u8]) -> Final {
+    judgement(bytes).at_finish
+}
+
+/// Lines ended so far for each of the 98 rows.
+pub fn counts(bytes: &[u8]) -> [u64; 98] {
+    judgement(bytes).counts
+}
+
+/// All there is to say of these bytes, from one reading of them.
+#[derive(Clone, Debug)]
+pub struct Judgement {
+    pub verdict: Verdict,
+    pub at_finish: Final,
+    pub counts: [u64; 98],
+}
+
+pub fn judgement(bytes: &[u8]) -> Judgement {
+    let judged = judge(bytes, BYTE_LIMIT);
+    let verdict = judged.verdict(bytes.len());
+    let at_finish = match verdict {
+        Verdict::Refused { number, line, field, lines, bytes } => {
+            Final::Refused { number, line, field, lines, bytes }
+        }
+        Verdict::Open { lines, bytes } if judged.lines.file_is_whole() => {
+            Final::Accepted { lines, bytes }
+        }
+        Verdict::Open { lines, bytes } => {
+            Final::Refused { number: 14, line: lines + 1, field: 0, lines, bytes }
+        }
+    };
+    Judgement { verdict, at_finish, counts: judged.lines.per_row() }
+}
+
+/// The first byte that breaks a rule, counted from 0.
+struct Broken {
+    byte: usize,
+    number: u8,
+    field: usize,
+}
+
+struct Judged<'a> {
+    lines: Lines<'a>,
+    broken: Option<Broken>,
+}
+
+impl Judged<'_> {
+    fn verdict(&self, length: usize) -> Verdict {
+        let lines = self.lines.count() as u64;
+        match &self.broken {
+            None => Verdict::Open { lines, bytes: length as u64 },
+            Some(broken) => Verdict::Refused {
+                number: broken.number,
+                line: lines + 1,
+                field: broken.field as u64,
+                lines,
+                bytes: broken.byte as u64 + 1,
+            },
+        }
+    }
+}
+
+fn judge(bytes: &[u8], limit: u64) -> Judged<'_> {
+    // 16 goes before all at its byte, so no other rule is asked there
+    let within = bytes.len().min(usize::try_from(limit - 1).unwrap_or(usize::MAX));
+    let mut judged = judge_lines(&bytes[..within]);
+    if judged.broken.is_none() && bytes.len() > within {
+        judged.broken = Some(Broken { byte: within, number: 16, field: 0 });
+    }
+    judged
+}
+
+fn judge_lines(bytes: &[u8]) -> Judged<'_> {
+    let mut lines = Lines::default();
+    let mut start = 0;
+    // before the first broken rule an LF only ever ends a line, so cut there
+    for bytes in bytes.split_inclusive(|&byte| byte == LF) {
+        let line = LineAtHand::cut(bytes);
+        let broken = first_broken(&line, &lines).map(|(offset, number, field)| Broken {
+            byte: start + offset,
+            number,
+            field,
+        });
+        if broken.is_some() {
+            return Judged { lines, broken };
+        }
+        if bytes.ends_with(&[LF]) {
+            lines.end_line(line.row.expect("a line that ended has a row"), bytes);
+        }
+        start += bytes.len();
+    }
+    Judged { lines, broken: None }
+}
+
+fn first_broken(line: &LineAtHand, before: &Lines) -> Option<(usize, u8, usize)> {
+    (0..line.bytes.len()).find_map(|offset| {
+        let (number, field) = broken_rule(&line.spot(offset, before))?;
+        Some((offset, number, field))
+    })
+}

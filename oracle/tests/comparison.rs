@@ -1,0 +1,151 @@
+//! The comparison itself: a stand-in that answers with the oracle passes,
+//! and every fault planted in it is caught.
+
+use std::fs::{self, File};
+use std::path::{Path, PathBuf};
+use std::process::{Command, Output};
+
+const STAND_IN: &str = env!("CARGO_BIN_EXE_stand-in");
+
+/// Faults that only the longest files show, so that a short run passes.
+const SEEN_IN_LONG_RUNS: [&str; 1] = ["counts-in-16-bits"];
+
+fn kept(name: &str) -> PathBuf {
+    let path = Path::new(env!("CARGO_TARGET_TMPDIR")).join("comparison").join(name);
+    let _ = fs::remove_dir_all(&path);
+    path
+}
+
+fn compare(program: &str, keep: &Path, more: &[&str]) -> Output {
+    let mut process = Command::new(env!("CARGO_BIN_EXE_compare"));
+    process.arg(program).arg("--keep").arg(keep).args(more).output().expect("compare runs")
+}
+
+fn text(output: &Output) -> String {
+    String::from_utf8_lossy(&output.stdout).into_owned()
+}
+
+fn faults() -> Vec<String> {
+    let output = Command::new(STAND_IN).arg("--faults").output().expect("the stand-in runs");
+    text(&output).lines().map(String::from).collect()
+}
+
+fn assert_caught(fault: &str, more: &[&str]) {
+    let keep = kept(fault);
+    let output = compare(&format!("{STAND_IN} {fault}"), &keep, more);
+    let text = text(&output);
+    assert_eq!(output.status.code(), Some(1), "{fault}: {text}");
+    assert!(text.contains("FAILURE") && !text.contains("all equal"), "{fault}: {text}");
+    // both of these show only after the last case
+    if !["one-line-more", "bad-status"].contains(&fault) {
+        assert!(text.contains("DIFFERENCE in case"), "{fault}: {text}");
+        assert!(fs::read_dir(&keep).expect("cases are kept").count() >= 3, "{fault}");
+    }
+}
+
+#[test]
+fn the_oracle_equals_itself() {
+    let keep = kept("none");
+    let output = compare(STAND_IN, &keep, &[]);
+    let text = text(&output);
+    assert!(output.status.success(), "{text}");
+    let last = text.lines().last().unwrap_or_default();
+    assert!(last.starts_with("compare: 42000 cases, ") && last.ends_with(" answers, all equal"));
+    assert!(!keep.exists());
+}
+
+#[test]
+fn every_fault_is_caught() {
+    let faults = faults();
+    assert_eq!(faults.len(), 49);
+    for fault in faults.iter().filter(|fault| !SEEN_IN_LONG_RUNS.contains(&fault.as_str())) {
+        assert_caught(fault, &["--cases", "300"]);
+    }
+}
+
+#[test]
+fn faults_are_caught_with_other_seeds() {
+    for (fault, seed) in
+        [("loses-cr", "2"), ("wraps-32", "3"), ("forgets-17", "4"), ("any-parent", "5")]
+    {
+        assert_caught(fault, &["--cases", "300", "--seed", seed]);
+    }
+}
+
+#[test]
+#[ignore = "takes a minute"]
+fn faults_that_long_runs_show() {
+    SEEN_IN_LONG_RUNS.iter().for_each(|fault| assert_caught(fault, &[]));
+}
+
+/// What is kept of a case shows the fault when it is fed again.
+#[test]
+fn kept_cases_show_the_fault() {
+    let keep = kept("shown");
+    let program = format!("{STAND_IN} wraps-32");
+    let output = compare(&program, &keep, &["--cases", "600"]);
+    let text = text(&output);
+    for part in
+        ["DIFFERENCE in case", "seed of the case", "  >> ", "P ", "expected: refused 13", "got: "]
+    {
+        assert!(text.contains(part), "{part}: {text}");
+    }
+    let mut cases = 0;
+    for entry in fs::read_dir(&keep).unwrap() {
+        let path = entry.unwrap().path();
+        if path.extension().is_some_and(|end| end == "commands") {
+            let answers = |end: &str| fs::read(path.with_extension(end)).unwrap();
+            assert_eq!(fed(&["wraps-32"], &path), answers("got"));
+            assert_eq!(fed(&[], &path), answers("expected"));
+            cases += 1;
+        }
+    }
+    assert!(cases > 3);
+}
+
+/// What the stand-in answers to the commands in a file.
+fn fed(words: &[&str], commands: &Path) -> Vec<u8> {
+    let commands = File::open(commands).expect("a file of commands");
+    Command::new(STAND_IN).args(words).stdin(commands).output().expect("the stand-in runs").stdout
+}
+
+#[test]
+fn too_few_cases_for_all_numbers_fail() {
+    let output = compare(STAND_IN, &kept("few"), &["--cases", "10"]);
+    assert_eq!(output.status.code(), Some(1));
+    assert!(text(&output).contains("FAILURE: no case ended with"));
+}
+
+#[test]
+fn programs_that_cannot_be_compared() {
+    for program in ["/no/such/program", "true", "cat > /dev/null", "exec 1>&-; cat"] {
+        let output = compare(program, &kept("wrong"), &["--cases", "2000"]);
+        assert_eq!(output.status.code(), Some(1), "{program}");
+        assert!(text(&output).contains("output ended too soon"), "{program}");
+    }
+    assert_eq!(compare("true", &kept("wrong"), &["--other"]).status.code(), Some(2));
+}
+
+#[test]
+fn stored_batches() {
+    let keep = kept("stored");
+    fs::create_dir_all(&keep).unwrap();
+    let store = |name: &str| {
+        let (commands, answers) =
+            (keep.join(format!("{name}.in")), keep.join(format!("{name}.out")));
+        let mut process = Command::new(env!("CARGO_BIN_EXE_stored"));
+        let status = process.args(["8", "300"]).arg(&commands).arg(&answers).status().unwrap();
+        assert!(status.success());
+        (commands, fs::read(answers).unwrap())
+    };
+    let (commands, answers) = store("one");
+    assert_eq!(fed(&[], &commands), answers);
+    assert_ne!(fed(&["loses-cr"], &commands), answers);
+    let (again, same) = store("other");
+    assert_eq!((fs::read(&commands).unwrap(), answers.clone()), (fs::read(again).unwrap(), same));
+    let text = String::from_utf8(answers).unwrap();
+    for number in 1..=15 {
+        assert!(text.contains(&format!("\nrefused {number} ")), "{number}");
+    }
+    assert!(text.contains("\naccepted "));
+}

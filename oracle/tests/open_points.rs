@@ -1,0 +1,184 @@
+//! Points document 01 leaves to a decision, and neighbours of its cases.
+
+mod common;
+use common::*;
+use oracle::{verdict_within, Verdict};
+
+/// Base up to before line 2, then these bytes.
+fn second_line(bytes: &[u8]) -> Vec<u8> {
+    [file(&BASE[..1]), bytes.to_vec()].concat()
+}
+
+#[test]
+fn bytes_after_the_last_field() {
+    for byte in (0..=255).filter(|&byte| byte != 10) {
+        last_byte_refused(&second_line(&[&b"|0001|1|\r"[..], &[byte]].concat()), 9, 2, 0);
+    }
+    for byte in (0..=255).filter(|&byte| byte != 10 && byte != 13) {
+        last_byte_refused(&second_line(&[&b"|0001|1|"[..], &[byte]].concat()), 8, 2, 3);
+    }
+    last_byte_refused(&second_line(b"|0001|1|\n"), 9, 2, 0);
+}
+
+#[test]
+fn first_bytes_of_a_line() {
+    for byte in (0..=255).filter(|&byte| byte != 124) {
+        last_byte_refused(&[byte], 1, 1, 0);
+        last_byte_refused(&second_line(&[byte]), 1, 2, 0);
+    }
+    last_byte_refused(b"|\r", 7, 1, 1);
+    last_byte_refused(b"|\n", 7, 1, 1);
+    last_byte_refused(b"|\x09", 2, 1, 1);
+    last_byte_refused(b"|0\r", 2, 1, 1);
+    last_byte_refused(b"||", 3, 1, 1);
+}
+
+#[test]
+fn bytes_in_a_field() {
+    for byte in 0..=31 {
+        last_byte_refused(&second_line(&[&b"|0001|1"[..], &[byte]].concat()), 2, 2, 2);
+        let right_after_bar = if byte == 10 || byte == 13 { 7 } else { 2 };
+        last_byte_refused(&second_line(&[&b"|0001|"[..], &[byte]].concat()), right_after_bar, 2, 2);
+    }
+    for byte in (32..=255).filter(|&byte| byte != 124) {
+        accepted(&base_field(1, 5, &[byte]), 6);
+    }
+}
+
+#[test]
+fn codes() {
+    for code in ["0", "00000", "9020", "8001", "c001", "0001 ", ""] {
+        last_byte_refused(&second_line(format!("|{code}|").as_bytes()), 3, 2, 1);
+    }
+    let long = [b"|".to_vec(), vec![b'0'; 5000], b"|".to_vec()].concat();
+    last_byte_refused(&second_line(&long), 3, 2, 1);
+}
+
+#[test]
+fn lines_of_level_0_and_1_twice_get_4() {
+    last_byte_refused(&second_line(b"|0000|"), 4, 2, 1);
+    last_byte_refused(&second_line(b"|0001|1|\r\n|0001|"), 4, 3, 1);
+    last_byte_refused(&[file(&BASE[..3]), b"|0990|".to_vec()].concat(), 4, 4, 1);
+    last_byte_refused(&[file(&BASE[..4]), b"|9001|".to_vec()].concat(), 4, 5, 1);
+    last_byte_refused(&[file(&BASE[..5]), b"|9990|".to_vec()].concat(), 4, 6, 1);
+    last_byte_refused(b"|0001|", 4, 1, 1);
+    last_byte_refused(&[file(&BASE[..4]), b"|9999|".to_vec()].concat(), 4, 5, 1);
+    last_byte_refused(&[file(&BASE[..2]), b"|9001|".to_vec()].concat(), 4, 3, 1);
+}
+
+#[test]
+fn second_0005_gets_6() {
+    let line = bare("0005", 14);
+    let lines = [BASE[0], "|0001|0|", &line, "|0025|||", "|0005|"];
+    refused(&file(&lines), 6, 5, 1);
+}
+
+#[test]
+fn fixed_texts() {
+    for (value, number) in [("LFPX", 12), ("LFP", 12), ("", 12), ("lfpd", 12), ("LFPD ", 11)] {
+        refused(&base_field(1, 2, value.as_bytes()), number, 1, 2);
+    }
+    for (value, number) in [("BRASIL", 12), ("Bras", 12), ("", 12), ("Brasil ", 11)] {
+        refused(&base_field(1, 16, value.as_bytes()), number, 1, 16);
+    }
+    refused(&base_field(1, 11, b"x"), 11, 1, 11);
+    refused(&base_field(1, 20, b" "), 11, 1, 20);
+}
+
+#[test]
+fn field_2_of_openings() {
+    for (value, number) in [("x", 10), ("xx", 10), ("00", 11), ("01", 11), ("2", 12), ("", 12)] {
+        refused(&base_field(2, 2, value.as_bytes()), number, 2, 2);
+        refused(&base_field(4, 2, value.as_bytes()), number, 4, 2);
+        let e001 = [file(&BASE[..3]), format!("|E001|{value}|").into_bytes()].concat();
+        last_byte_refused(&e001, number, 4, 2);
+    }
+    refused(&base_field(4, 2, b"0"), 5, 5, 1);
+}
+
+#[test]
+fn counts_of_all_kinds() {
+    for (line, count) in [(3, "3"), (5, "3"), (6, "6")] {
+        let zeros = format!("{}{count}", "0".repeat(700));
+        accepted(&base_field(line, 2, zeros.as_bytes()), 6);
+        let place = line as u64;
+        for bad in ["", "0", "4", "33", "30", &"9".repeat(900)] {
+            refused(&base_field(line, 2, bad.as_bytes()), 13, place, 2);
+        }
+        for bad in ["x", "3x", " 3", "3 ", "+3", "3,0", "-3", "3:", "/3"] {
+            refused(&base_field(line, 2, bad.as_bytes()), 10, place, 2);
+        }
+    }
+    for wrap in ["4294967299", "18446744073709551619", "259", "65539"] {
+        refused(&base_field(3, 2, wrap.as_bytes()), 13, 3, 2);
+    }
+    let two_to_128_plus_3 = b"340282366920938463463374607431768211459";
+    refused(&base_field(3, 2, two_to_128_plus_3), 13, 3, 2);
+}
+
+#[test]
+fn dates_are_numbers_of_size_8_first() {
+    for (value, number) in [("0101201x", 10), ("1x", 10), ("1012012", 11), ("001012012", 11)] {
+        refused(&base_field(1, 3, value.as_bytes()), number, 1, 3);
+    }
+    for value in ["00000000", "01012100", "31121899", "31042012", "01132012"] {
+        refused(&base_field(1, 4, value.as_bytes()), 12, 1, 4);
+    }
+    for value in ["", "01011900", "31122099", "29022000"] {
+        accepted(&base_field(1, 4, value.as_bytes()), 6);
+    }
+}
+
+#[test]
+fn control_byte_in_a_text_too_long() {
+    let start = [b"|0000|LFPD|||".to_vec(), vec![b'n'; 400]].concat();
+    last_byte_refused(&[&start[..], &[9]].concat(), 2, 1, 5);
+    last_byte_refused(&[&start[..], b"|"].concat(), 11, 1, 5);
+}
+
+#[test]
+fn fields_of_lines_not_typed() {
+    let long = "x".repeat(70_000);
+    let mut lines = upto_block("H");
+    lines.push(format!("|H020|{long}|\u{e9}{}", "|".repeat(10)));
+    lines.extend(["|H990|3|", "|9001|1|", "|9990|3|", "|9999|9|"].map(String::from));
+    accepted(&written(&lines), 9);
+}
+
+#[test]
+fn p_is_any_number_at_level_2_and_one_at_level_3() {
+    let mut lines = upto_block("E");
+    lines.extend([bare("E300", 3), bare("E340", 24), bare("E300", 3), bare("E340", 24)]);
+    open(&written(&lines), 8);
+    lines.extend([bare("E305", 23), bare("E340", 24)]);
+    refused(&written(&lines), 6, 10, 1);
+}
+
+#[test]
+fn finish_too_soon() {
+    let base = file(&BASE);
+    for length in 0..base.len() {
+        let lines = base[..length].iter().filter(|&&byte| byte == 10).count() as u64;
+        refused(&base[..length], 14, lines + 1, 0);
+    }
+}
+
+#[test]
+fn the_byte_too_many() {
+    let base = file(&BASE);
+    let at = |length: u64, lines| Verdict::Refused {
+        number: 16,
+        line: lines + 1,
+        field: 0,
+        lines,
+        bytes: length,
+    };
+    // exactly at the limit the file still stands; 16 goes before 15 and all others
+    assert_eq!(verdict_within(&base, 111), Verdict::Open { lines: 6, bytes: 110 });
+    let longer = [&base[..], b"xyz"].concat();
+    assert_eq!(verdict_within(&longer, 111), at(111, 6));
+    assert_eq!(verdict_within(&base, 110), at(110, 5));
+    assert_eq!(verdict_within(b"x", 1), at(1, 0));
+    assert!(matches!(verdict_within(b"x", 2), Verdict::Refused { number: 1, .. }));
+    assert!(matches!(verdict_within(&longer, 112), Verdict::Refused { number: 15, .. }));
+}

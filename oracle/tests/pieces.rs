@@ -1,0 +1,80 @@
+//! Pieces, finish and report as a checker has them.
+
+mod common;
+use common::*;
+use oracle::generate::{case, pieces};
+use oracle::{counts, finish, verdict, Answer, Final, Checker, Verdict};
+
+const AFTER_FINISH: Answer = Answer::Refused { number: 17, line: 0, field: 0, lines: 0, bytes: 0 };
+
+fn of_verdict(verdict: Verdict) -> Answer {
+    match verdict {
+        Verdict::Open { lines, bytes } => Answer::Open { lines, bytes },
+        Verdict::Refused { number, line, field, lines, bytes } => {
+            Answer::Refused { number, line, field, lines, bytes }
+        }
+    }
+}
+
+fn of_final(answer: Final) -> Answer {
+    match answer {
+        Final::Accepted { lines, bytes } => Answer::Accepted { lines, bytes },
+        Final::Refused { number, line, field, lines, bytes } => {
+            Answer::Refused { number, line, field, lines, bytes }
+        }
+    }
+}
+
+#[test]
+fn pieces_of_generated_files() {
+    for seed in 0..2000 {
+        let bytes = case(seed, 400).bytes;
+        let mut checker = Checker::default();
+        let mut joined = Vec::new();
+        for piece in pieces(seed, &bytes) {
+            joined.extend_from_slice(&piece);
+            assert_eq!(checker.piece(&piece), of_verdict(verdict(&joined)));
+        }
+        assert_eq!(joined, bytes);
+        assert_eq!(checker.finish(), of_final(finish(&bytes)));
+        assert_eq!(checker.piece(b"|"), AFTER_FINISH);
+        assert_eq!(checker.piece(b""), AFTER_FINISH);
+        assert_eq!(checker.finish(), AFTER_FINISH);
+        let mut room = [7; 100];
+        assert_eq!(checker.report(&mut room), None);
+        assert_eq!(room[..98], counts(&bytes));
+        assert_eq!(room[98..], [7, 7]);
+    }
+}
+
+#[test]
+fn a_refusal_stays() {
+    let mut checker = Checker::default();
+    let refusal = Answer::Refused { number: 1, line: 1, field: 0, lines: 0, bytes: 1 };
+    assert_eq!(checker.piece(b""), Answer::Open { lines: 0, bytes: 0 });
+    assert_eq!(checker.piece(b"xy"), refusal);
+    assert_eq!(checker.piece(&file(&BASE)), refusal);
+    assert_eq!(checker.finish(), refusal);
+    assert_eq!(checker.finish(), AFTER_FINISH);
+}
+
+#[test]
+fn finish_that_gave_14_is_still_a_finish() {
+    let mut checker = Checker::default();
+    let base = file(&BASE);
+    checker.piece(&base[..109]);
+    let too_soon = Answer::Refused { number: 14, line: 6, field: 0, lines: 5, bytes: 109 };
+    assert_eq!(checker.finish(), too_soon);
+    assert_eq!(checker.piece(&base[109..]), AFTER_FINISH);
+}
+
+#[test]
+fn report_with_too_little_room() {
+    let mut checker = Checker::default();
+    checker.piece(&file(&BASE[..2]));
+    let mut room = [7; 97];
+    let too_little = Answer::Refused { number: 18, line: 0, field: 0, lines: 0, bytes: 0 };
+    assert_eq!(checker.report(&mut room), Some(too_little));
+    assert_eq!(room, [7; 97]);
+    assert_eq!(checker.piece(b""), Answer::Open { lines: 2, bytes: file(&BASE[..2]).len() as u64 });
+}
