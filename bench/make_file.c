@@ -1,0 +1,462 @@
+/*
+ * make_file SEED BYTES: writes an accepted file of about so many bytes to
+ * standard output. The same seed and size always give the same file.
+ *
+ * A line is written from a pattern: its code, then a word for each field.
+ * The word is "-" for an empty field, "=x" for the text x, or a letter for a
+ * made-up content (see content()), with a digit d to fill it only d times in
+ * ten.
+ */
+#include <stdint.h>
+#include <stdio.h>
+#include <stdlib.h>
+#include <string.h>
+
+static uint64_t seed;
+static uint64_t bytes_written, lines_written, lines_before_block;
+static unsigned participants, items, documents, item_number;
+
+/* ---------------------------------------------------------------- chance */
+
+static uint64_t number(void)
+{
+    seed += UINT64_C(0x9E3779B97F4A7C15);
+    uint64_t z = seed;
+    z = (z ^ z >> 30) * UINT64_C(0xBF58476D1CE4E5B9);
+    z = (z ^ z >> 27) * UINT64_C(0x94D049BB133111EB);
+    return z ^ z >> 31;
+}
+
+static unsigned below(unsigned limit)
+{
+    return number() % limit;
+}
+
+static unsigned between(unsigned low, unsigned high)
+{
+    return low + below(high - low + 1);
+}
+
+static int tenths(unsigned chance)
+{
+    return below(10) < chance;
+}
+
+#define ANY_OF(words) words[below(sizeof words / sizeof words[0])]
+
+/* -------------------------------------------------------- field contents */
+
+static void put_part(const char *text, size_t length)
+{
+    fwrite(text, 1, length, stdout);
+    bytes_written += length;
+}
+
+static void put(const char *text)
+{
+    put_part(text, strlen(text));
+}
+
+static void put_number(uint64_t value, int width)
+{
+    char text[24];
+    snprintf(text, sizeof text, "%0*llu", width, (unsigned long long)value);
+    put(text);
+}
+
+static void put_digits(int count)
+{
+    for (; count > 9; count -= 9)
+        put_number(below(1000000000), 9);
+    unsigned limit = 1;
+    for (int i = 0; i < count; i++)
+        limit *= 10;
+    put_number(below(limit), count);
+}
+
+/* Small amounts are more frequent than great ones. */
+static void put_amount(int decimals)
+{
+    static const unsigned limits[] = {100, 1000, 10000, 100000, 1000000};
+    put_number(below(ANY_OF(limits)), 1);
+    put(",");
+    put_digits(decimals);
+}
+
+static void put_date(void)
+{
+    put_number(between(1, 31), 2);
+    put("012012");
+}
+
+/* Names are in ISO 8859-1, as the files are. */
+static void put_person(void)
+{
+    static const char *const first[] = {"Maria", "Jos\351", "Ana", "Jo\343o", "Ant\364nio",
+        "Francisca", "Carlos", "Paulo", "Adriana", "L\372cia"};
+    static const char *const last[] = {"da Silva", "dos Santos", "Oliveira", "Souza",
+        "Cavalcanti", "Albuquerque", "de Melo", "Ara\372jo", "Gon\347alves", "Barros"};
+    put(ANY_OF(first));
+    put(" ");
+    put(ANY_OF(last));
+}
+
+static void put_firm(void)
+{
+    static const char *const trade[] = {"Com\351rcio", "Ind\372stria", "Distribuidora",
+        "Supermercado", "Auto Posto", "Farm\341cia", "Padaria", "Atacad\343o"};
+    static const char *const name[] = {"Boa Viagem", "Pernambucana", "Capibaribe", "S\343o Jorge",
+        "do Agreste", "Nova Era", "Casa Forte", "Guararapes", "Tr\352s Irm\343os"};
+    static const char *const form[] = {" Ltda", " Ltda ME", " S/A", " EPP", ""};
+    put(ANY_OF(trade));
+    put(" ");
+    put(ANY_OF(name));
+    put(ANY_OF(form));
+}
+
+static void put_product(void)
+{
+    static const char *const what[] = {"Arroz tipo 1", "Feij\343o carioca", "A\347\372car cristal",
+        "Caf\351 torrado e mo\355do", "\323leo de soja", "Leite integral", "Sab\343o em p\363",
+        "Refrigerante cola", "Papel A4 75g/m2", "Parafuso sextavado 1/4\"", "Gasolina comum"};
+    static const char *const pack[] = {" 500g", " 1kg", " 5 kg", " 900ml", " cx c/ 12", " un", ""};
+    put(ANY_OF(what));
+    put(ANY_OF(pack));
+}
+
+static void put_street(void)
+{
+    static const char *const kind[] = {"Rua ", "Av. ", "Travessa ", "Rod. BR-101 "};
+    static const char *const name[] = {"da Aurora", "Conde da Boa Vista", "do Hosp\355cio",
+        "Agamenon Magalh\343es", "Caxang\341", "do Sol", "Jo\343o de Barros"};
+    put(ANY_OF(kind));
+    put(ANY_OF(name));
+}
+
+static void put_phone(void)
+{
+    put("81");
+    put_digits(8);
+}
+
+static void put_mail(void)
+{
+    put("fiscal");
+    put_digits(3);
+    put("@empresa.com.br");
+}
+
+static void put_code(const char *start, unsigned value, int width)
+{
+    put(start);
+    put_number(value, width);
+}
+
+static void content(char letter)
+{
+    static const char *const models[] = {"55", "55", "55", "01", "04"};
+    static const char *const states[] = {"PE", "PE", "PE", "PB", "AL", "BA", "CE", "SP", "RJ"};
+    static const char *const units[] = {"UN", "KG", "CX", "L", "PCT", "DZ"};
+    static const char *const rates[] = {"17,00", "17,00", "12,00", "7,00", "25,00", "0,00"};
+    static const char *const cfops[] = {"5102", "5405", "6102", "1102", "2102", "1403", "5929"};
+    static const char *const quarters[] = {"Boa Vista", "Casa Amarela", "Pina", "Imbiribeira",
+        "V\341rzea", "Santo Ant\364nio"};
+    static const char *const extras[] = {"sala 301", "loja 2", "galp\343o B", "t\351rreo"};
+    static const char *const natures[] = {"VENDA", "COMPRA", "DEVOL", "TRANSF"};
+    static const char *const classes[] = {"SP10", "SP20", "EP10", "OP30"};
+    static const char *const notes[] = {"OBS01", "OBS02", "OBS17"};
+    switch (letter) {
+    case 'A': put(ANY_OF(rates)); break;
+    case 'B': put_number(below(2), 1); break;
+    case 'C': put_digits(8); break;
+    case 'D': put_date(); break;
+    case 'E': put_mail(); break;
+    case 'F': put(ANY_OF(cfops)); break;
+    case 'G': put_digits(2); break;
+    case 'H': put_digits(3); break;
+    case 'I': put_code("", 789000000 + below(items), 13); break;
+    case 'J': put_digits(14); break;
+    case 'K': put_digits(44); break;
+    case 'L': put_amount(3); break;
+    case 'M': put(ANY_OF(models)); break;
+    case 'N': put_number(documents, 1); break;
+    case 'O': put_number(item_number, 1); break;
+    case 'P': put_code("P", 1 + below(participants), 6); break;
+    case 'Q': put_amount(6); break;
+    case 'R': put_number(between(1, 3000), 1); break;
+    case 'S': put(ANY_OF(states)); break;
+    case 'T': put_phone(); break;
+    case 'U': put(ANY_OF(units)); break;
+    case 'V': put_amount(2); break;
+    case 'W': put_digits(7); break;
+    case 'X': put_digits(11); break;
+    case 'Y': put_digits(4); break;
+    case 'Z': put("0,00"); break;
+    case 'a': put_street(); break;
+    case 'b': put(ANY_OF(quarters)); break;
+    case 'c': put(ANY_OF(extras)); break;
+    case 'd': put_code("", 789000000 + items, 13); break;
+    case 'f': put_firm(); break;
+    case 'g': put(ANY_OF(natures)); break;
+    case 'h': put(ANY_OF(classes)); break;
+    case 'n': put_person(); break;
+    case 'o': put(ANY_OF(notes)); break;
+    case 'p': put_code("P", participants, 6); break;
+    case 'q': put_digits(9); break;
+    case 'r': put_product(); break;
+    default: fprintf(stderr, "make_file: no content %c\n", letter); exit(2);
+    }
+}
+
+/* ------------------------------------------------------------------ lines */
+
+static void field(const char *word, size_t length)
+{
+    if (word[0] == '=')
+        put_part(word + 1, length - 1);
+    else if (word[0] != '-' && (length == 1 || tenths(word[1] - '0')))
+        content(word[0]);
+    put("|");
+}
+
+static void line(const char *pattern)
+{
+    put("|");
+    put_part(pattern, 4);
+    put("|");
+    for (const char *word = pattern + 4; *word == ' ';) {
+        size_t length = strcspn(++word, " ");
+        field(word, length);
+        word += length;
+    }
+    put("\r\n");
+    lines_written++;
+}
+
+static void some(unsigned least, unsigned most, const char *pattern)
+{
+    for (unsigned left = between(least, most); left > 0; left--)
+        line(pattern);
+}
+
+static void perhaps(unsigned chance, const char *pattern)
+{
+    if (tenths(chance))
+        line(pattern);
+}
+
+static void opening(const char *code, char mark)
+{
+    char pattern[] = "x001 =x";
+    pattern[0] = code[0];
+    pattern[6] = mark;
+    lines_before_block = code[0] == '0' ? 0 : lines_written;
+    line(pattern);
+}
+
+/* More is the number of lines to come that the count includes. */
+static void closing(const char *code, uint64_t more)
+{
+    char pattern[40];
+    uint64_t count = lines_written + 1 + more - lines_before_block;
+    snprintf(pattern, sizeof pattern, "%s =%llu", code, (unsigned long long)count);
+    line(pattern);
+}
+
+/* ----------------------------------------------------------------- blocks */
+
+static void taxpayer(void)
+{
+    line("0000 =LFPD =01012012 =31012012 f J =PE q W X - q =2000 =0 =20 =Brasil f X X5 -");
+    opening("0", '0');
+    line("0005 n =205 X C a R c4 b C5 R3 T T3 E");
+    some(1, 4, "0025 =PE001 =RE002");
+    line("0030 =0 =1 =0 =2 =0 =0 =1 =1 =0 =1 =0 =0 =1 =1 =0 =0 =1");
+    line("0100 n =900 J5 X =PE012345O C a R c2 b S W C2 R2 T T E");
+}
+
+static void participant(void)
+{
+    participants++;
+    line("0150 p f =01058 J X2 - S q q1 W X3 q1");
+    perhaps(9, "0175 C a R c3 b C1 R1 T6 T2");
+}
+
+static void item(void)
+{
+    items++;
+    line("0200 d r G Y1");
+    perhaps(1, "0205 r D D d");
+    perhaps(1, "0210 U Q d r U Q L -");
+}
+
+static void notes(void)
+{
+    some(3, 6, "0400 g r h");
+    for (unsigned left = between(3, 8); left > 0; left--) {
+        line("0450 o r");
+        perhaps(3, "0455 r");
+        perhaps(2, "0460 =0 r S W =012012 q V D Z Z Z Z V D X");
+    }
+}
+
+static void block_0(uint64_t end)
+{
+    taxpayer();
+    do {
+        participant();
+        for (unsigned left = between(1, 3); left > 0; left--)
+            item();
+    } while (bytes_written < end);
+    notes();
+    closing("0990", 0);
+}
+
+static void invoice(void)
+{
+    documents++;
+    line("C020 B B P M =00 =1 N K8 D D g B V Z Z V Z Z Z Z3 V V V3 V3 Z V1 o2");
+    perhaps(1, "C040 W V V V V");
+    unsigned left = between(1, 12);
+    for (item_number = 1; left > 0; left--, item_number++) {
+        line("C300 O I U Q Q Z Z V C Y F V A V V2 A2 V2 V1 A1 V1");
+        perhaps(1, "C305 r");
+        perhaps(1, "C310 G V A");
+    }
+}
+
+static void coupon(void)
+{
+    documents++;
+    line("C600 X3 J1 =2D =00 =1 =BE0000000000 R R N D h V Z Z Z Z V V Z Z V3");
+    perhaps(1, "C605 Z Z Z V V Z Z");
+    unsigned left = between(1, 8);
+    for (item_number = 1; left > 0; left--, item_number++) {
+        line("C610 O I U Q Q Z Z V Y F V A V Z Z Z");
+        perhaps(1, "C615 V A V Z Z");
+    }
+}
+
+static void block_c(uint64_t end)
+{
+    opening("C", '0');
+    do {
+        invoice();
+        if (tenths(5))
+            coupon();
+    } while (bytes_written < end);
+    closing("C990", 0);
+}
+
+static void entry(void)
+{
+    documents++;
+    line("E020 B B P M =00 =1 N K8 D D g h X B V Z V V V2 V1 V1 Z Z Z V1 V1 Z Z o2");
+    some(1, 4, "E025 V Z F V A V V2 V2 Z Z V1 V1 Z Z B B");
+    perhaps(1, "E120 B B P W =08 =00 =1 - N K5 D D h X B V F V A V Z Z Z o1");
+}
+
+static void assessment(void)
+{
+    line("E300 =01012012 =31012012");
+    some(20, 31, "E305 B B D h X R V Z V V V2 Z Z Z Z Z Z Z V1 V1 Z Z");
+    some(8, 20, "E310 V Z F V V V2 Z Z B");
+    some(3, 8, "E330 B V Z V V V Z Z Z Z Z Z Z");
+    line("E340 V V V Z Z V Z V V Z Z Z V Z Z Z Z Z V Z Z Z V");
+    some(0, 5, "E350 =PE H V X3 X3 B r o2 =1");
+    some(1, 4, "E360 =PE H =012012 =0051 V D X2 B r2 o1");
+}
+
+static void block_e(uint64_t end)
+{
+    opening("E", '0');
+    some(1, 3, "E003 S =E020 R R");
+    do
+        entry();
+    while (bytes_written < end);
+    assessment();
+    closing("E990", 0);
+}
+
+static void fuel_day(void)
+{
+    line("F215 =1 D L L L L L Z Z L V");
+    for (unsigned left = between(1, 3); left > 0; left--) {
+        line("F220 =TQ01 L L L L Z Z");
+        perhaps(4, "F225 =0 =1 J S q =55 =1 N D V V V L o1");
+        some(1, 4, "F230 R G X X Z");
+    }
+}
+
+static void block_f(uint64_t end)
+{
+    opening("F", '0');
+    line("F200 =1 =01012012 =31012012");
+    some(2, 6, "F205 R f J r B");
+    do {
+        line("F210 I o1");
+        for (unsigned left = between(5, 31); left > 0; left--)
+            fuel_day();
+    } while (bytes_written < end);
+    line("F250 =1 =01012012 =31012012");
+    some(2, 10, "F255 D B P S W =KJA1234 r r Y r X X V B D5 P5 V5 o1");
+    closing("F990", 0);
+}
+
+static void block_g(uint64_t end)
+{
+    opening("G", '0');
+    line("G020 =0 =01012012 =31012012");
+    do
+        line("G025 B B M =1 - R R R R V Z Z V V2 Z V1");
+    while (bytes_written < end);
+    some(1, 5, "G030 =2D R R R R R V Z V V2");
+    some(20, 31, "G050 B B D h R V V Z Z Z V V2 Z Z Z Z Z V1");
+    some(8, 20, "G400 V Z F V V V2 V2 Z Z");
+    some(3, 8, "G410 B V Z V V V Z Z Z Z Z Z Z");
+    line("G420 V V V Z Z V Z V V Z Z Z V Z Z Z Z Z V Z Z Z V");
+    some(0, 5, "G430 H V");
+    some(1, 4, "G440 =PE H =012012 =0051 V D");
+    line("G450 =0 V V Z V V V V2 Z Z Z Z Z Z");
+    some(3, 9, "G460 S V V Z V V V V2 Z Z Z Z Z Z");
+    closing("G990", 0);
+}
+
+static void block_h(uint64_t end)
+{
+    opening("H", '0');
+    line("H020 =0 =31122011 V V Z V V Z V X o2");
+    do
+        line("H030 =0 P1 B C I U Q Q V V Z V V Z o1");
+    while (bytes_written < end);
+    some(1, 3, "H040 B V");
+    some(1, 2, "H050 B V");
+    some(3, 20, "H060 C V");
+    closing("H990", 0);
+}
+
+static void block_9(void)
+{
+    opening("9", '1');
+    closing("9990", 1);
+    lines_before_block = 0;
+    closing("9999", 0);
+}
+
+int main(int argc, char **argv)
+{
+    if (argc != 3) {
+        fputs("usage: make_file SEED BYTES\n", stderr);
+        return 2;
+    }
+    seed = strtoull(argv[1], NULL, 10);
+    uint64_t bytes = strtoull(argv[2], NULL, 10);
+    block_0(bytes * 18 / 100);
+    block_c(bytes * 62 / 100);
+    block_e(bytes * 88 / 100);
+    block_f(bytes * 93 / 100);
+    block_g(bytes * 95 / 100);
+    block_h(bytes);
+    block_9();
+    return fflush(stdout) == 0 && !ferror(stdout) ? 0 : 2;
+}
