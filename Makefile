@@ -1,10 +1,26 @@
 # What a user runs. `make test` is the whole gate: it ends in rt's own 'N passed, 0 failed'.
-.PHONY: test kit
+.PHONY: test compare bench long kit cargo
 
-test: kit
-	@rt fmt --check
-	@rt ci
+SEED = 1
+CASES = 42000
 
-# The only thing that is needed from outside is the Rattle kit.
+test: kit cargo
+	@tools/test
+
+# The proved checker against the independent one, for longer runs: make compare SEED=7 CASES=200000
+compare: kit cargo
+	@tools/compare $(SEED) $(CASES)
+
+# Executed instructions per byte beside the C peer's. Not part of the tests.
+bench: kit
+	@bench/bench.sh
+
+# A file at the byte limit, and one past it.
+long: kit
+	@tools/long
+
 kit:
 	@command -v rt > /dev/null || { echo "Golpinesh needs the Rattle kit: its command rt is not on the PATH" >&2; exit 2; }
+
+cargo:
+	@command -v cargo > /dev/null || { echo "the independent checker needs cargo: install Debian's package cargo" >&2; exit 2; }
