@@ -13,7 +13,7 @@ use Rattle.rules.specs.Bytes.{empty}
 use Rattle.rules.specs.Fields.{isDigit, allDigits, isDecimal, comma}
 use Rattle.field.specs.declared.bytes.Field.{Field}
 use Rattle.field.specs.Streaming.{cap, longer, wrongWith, commaFits, decimalsWith, decimalWith, withByte, fieldAfter}
-use Rattle.field.proofs.TestLaws.{split, same-test, and-left}
+use Rattle.rules.proofs.TestLaws.{split, same-test, and-left}
 use Rattle.field.proofs.Picks.{and-no-right}
 use Rattle.field.proofs.LengthLaws.{length-is}
 use Rattle.field.proofs.DigitLaws.{right-on}

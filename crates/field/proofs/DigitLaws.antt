@@ -11,7 +11,7 @@ use Rattle.layout.specs.Pick.{pick}
 use Rattle.rules.specs.Fields.{isDigit, allDigits, value}
 use Rattle.field.specs.declared.bytes.Field.{Field}
 use Rattle.field.specs.Streaming.{cap, valueWith, digitWith, withByte, fieldAfter}
-use Rattle.field.proofs.TestLaws.{and-left, and-right, same-test}
+use Rattle.rules.proofs.TestLaws.{and-left, and-right, same-test}
 
 -- nothing is wrong after a byte exactly if the byte is right and nothing was wrong
 pub right-on : (right : Bool) (wrong : ℕ) → eqb (pick right wrong 1) 0 ≡ (right && eqb wrong 0)

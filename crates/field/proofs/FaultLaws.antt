@@ -17,7 +17,7 @@ use Rattle.rules.specs.Fields.{isDigit, allDigits, value, isDecimal, isDate, sa
 use Rattle.field.specs.declared.bytes.Field.{Field}
 use Rattle.field.specs.Streaming.{cap, digitWith, textWith, decimalWith, isPlain, withByte, fieldAfter, emptyFault, rightForm, isExact, rightSize, contentFault, numberFault, textFault, isTextClass, faultOf}
 use Rattle.field.specs.Ruled.{ruled}
-use Rattle.field.proofs.TestLaws.{split, and-left}
+use Rattle.rules.proofs.TestLaws.{split, and-left}
 use Rattle.field.proofs.Picks.{and-first}
 use Rattle.field.proofs.LengthLaws.{length-is}
 use Rattle.field.proofs.DigitLaws.{digits-right, digits-value, value-below, capped-is}

@@ -1,5 +1,4 @@
 pub mod Picks
-pub mod TestLaws
 pub mod LengthLaws
 pub mod DigitLaws
 pub mod TextLaws

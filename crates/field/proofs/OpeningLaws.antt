@@ -15,7 +15,7 @@ use Rattle.rules.specs.Bytes.{empty}
 use Rattle.rules.specs.Fields.{allDigits, same, isText, formOf}
 use Rattle.field.specs.Streaming.{valueWith, digitWith, isPlain, withByte, fieldAfter}
 use Rattle.field.specs.Ruled.{ruled}
-use Rattle.field.proofs.TestLaws.{split}
+use Rattle.rules.proofs.TestLaws.{split}
 use Rattle.field.proofs.TextLaws.{same-eq}
 
 -- where no rule is broken the content is right

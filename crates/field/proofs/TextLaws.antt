@@ -11,7 +11,7 @@ use borrow.Author.Tests.{eqb-true, eqb-false, eq-eqb}
 use Rattle.rules.specs.Fields.{same}
 use Rattle.field.specs.declared.bytes.Field.{Field}
 use Rattle.field.specs.Streaming.{matches, textWith, isFixed, withByte, fieldAfter}
-use Rattle.field.proofs.TestLaws.{and-left, and-right}
+use Rattle.rules.proofs.TestLaws.{and-left, and-right}
 use Rattle.field.proofs.LengthLaws.{length-is}
 use Rattle.field.proofs.DigitLaws.{right-on}
 

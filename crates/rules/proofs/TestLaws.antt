@@ -1,14 +1,23 @@
 -- Tests: a proof by a test's two values, what `&&` says of its parts, `pick` under a function, and a chain of rules that is clear.
-use mathlib.Core.Path.{_≡_, refl, sym}
+use mathlib.Core.Path.{_≡_, _∙_, refl, sym}
 use mathlib.Core.Bool.{Bool, true, false, not, _&&_}
 use Prim.Native.Nat.{ℕ, _≤_}
 use native.Mathlib.Omega.{arith}
+use lib.Dec.{eqb}
+use borrow.Author.Tests.{eq-eqb, ne-eqb, eqb-true, eqb-false}
 use Rattle.layout.specs.Pick.{pick}
 use Rattle.rules.specs.Rules.{Fault, clear, breaks}
 
 pub split : {X : Type 0} (t : Bool) → (t ≡ true → X) → (t ≡ false → X) → X
 split true p q = p refl
 split false p q = q refl
+
+-- two equality tests that hold together
+pub same-test : (a b c d : ℕ) → (a ≡ b → c ≡ d) → (c ≡ d → a ≡ b) → eqb a b ≡ eqb c d
+same-test a b c d p q =
+    split (eqb c d)
+    (λ t. eq-eqb a b (q (eqb-true c d t)) ∙ sym t)
+    (λ t. ne-eqb a b (λ e. eqb-false c d t (p e)) ∙ sym t)
 
 -- no test holds and fails
 pub both : {X : Type 0} {t : Bool} → t ≡ true → t ≡ false → X

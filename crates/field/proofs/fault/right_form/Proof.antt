@@ -6,7 +6,7 @@ use native.Mathlib.Omega.{arith}
 use lib.Dec.{eqb}
 use borrow.Author.Tests.{ne-eqb}
 use Rattle.field.specs.Streaming.{rightForm}
-use Rattle.field.proofs.TestLaws.{same-test}
+use Rattle.rules.proofs.TestLaws.{same-test}
 use Rattle.field.proofs.Picks.{called}
 use borrow.Author.Needs.{needs}
 use Rattle.field.proofs.fault.right_form.Statement.{statement}
