@@ -191,3 +191,12 @@ fault-is lfpd due w h l = lfpd-bar due w
 fault-is brasil due w h l = brasil-bar due w
 fault-is opens due w h l = opens-bar due w
 fault-is count due w h l = count-bar due w h
+
+-- of a free field nothing is asked, and what is due is asked of counts alone
+pub free-fault : (kind : ℕ) (f : Field) (due : ℕ) → kind ≡ 0 → faultOf kind f due ≡ 0
+unfolding faultOf
+free-fault kind f due e = rw e
+
+pub countless-fault : (kind : ℕ) (f : Field) (m n : ℕ) → eqb (kind % 16) 10 ≡ false → faultOf kind f m ≡ faultOf kind f n
+unfolding faultOf numberFault contentFault
+countless-fault kind f m n e = rw e

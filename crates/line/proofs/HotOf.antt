@@ -2,7 +2,7 @@
 use mathlib.Core.Path.{_≡_, _∙_, refl, sym, ap}
 use mathlib.Core.Bool.{true, false, _&&_}
 use mathlib.Core.List.{List, [], _∷_}
-use Prim.Native.Nat.{ℕ, suc, _+_, _≤_}
+use Prim.Native.Nat.{ℕ, suc, _+_, _<_, _≤_}
 use native.Mathlib.Omega.{arith}
 use native.Mathlib.Numerals.{add-one}
 use native.Mathlib.Decide.{ℕ-discrete}
@@ -10,7 +10,7 @@ use lib.Dec.{eqb, ltb}
 use lib.ListN.{length}
 use borrow.Author.Tests.{eq-eqb, ne-eqb, lt-ltb, le-ltb}
 use Rattle.layout.specs.Pick.{pick}
-use Rattle.layout.specs.Rows.{fields, isOpening}
+use Rattle.layout.specs.Rows.{rowCount, fields, isOpening}
 use Rattle.layout.specs.Kinds.{kind}
 use Rattle.layout.specs.Packed.{kindNumber}
 use Rattle.rules.specs.Bytes.{bar, LF, lines, lineAtHand, field, rowOf, rows, rowAtHand, bars, word}
@@ -19,6 +19,7 @@ use Rattle.rules.specs.Fields.{isText}
 use Rattle.rules.specs.Rules.{rowToBe}
 use Rattle.rules.proofs.TestLaws.{split}
 use Rattle.layout.proofs.RoleLaws.{fields-none}
+use Rattle.layout.proofs.KindLaws.{opens-kind}
 use Rattle.rules.proofs.ByteLaws.{lines-on, rows-on, bars-on, word-on, field-on, row-on, lines-bar, rows-bar, bars-bar, word-bar, field-bar, row-code, row-later, lines-lf, rows-lf, bars-lf, word-lf, row-lf, row-early}
 use Rattle.rules.proofs.BlockLaws.{since}
 use Rattle.field.specs.Streaming.{fieldAfter}
@@ -124,12 +125,12 @@ module _ (seen : List ℕ) where
   abbrev pub Told : Type 0
   Told = bars seen ≡ 2 → isOpening (rowAtHand seen) ≡ true → isText "0" (word seen) ≡ eqb (hotOf seen .field .value) 0
 
-  module _ (late : 2 ≤ bars seen) where
+  module _ (late : 2 ≤ bars seen) (known : rowAtHand seen < rowCount) where
     says-bar : Told → says (bar ∷ seen) ≡ saysOf (hotOf seen)
     unfolding saysOf
     says-bar told =
         says-late (bar ∷ seen) (omega (arith, bars-bar seen)) ∙ hand-says-bar
-        ∙ rw (row-later seen late) (go (ℕ-discrete (bars seen) 2))
+        ∙ rw (row-later seen late, opens-kind (rowAtHand seen) (bars seen) known) (go (ℕ-discrete (bars seen) 2))
       where
         go : Dec (bars seen ≡ 2)
             → pick (isOpening (rowAtHand seen)) (pick (isText "0" (pick (eqb (bars seen) 2) (word seen) (field 2 (lineAtHand seen)))) data0 data1) 0

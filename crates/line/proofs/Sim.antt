@@ -95,7 +95,7 @@ field-does : (seen : List ℕ) → 2 ≤ bars seen → Sound seen
 unfolding fieldBarOf
 field-does seen late s =
     rw (found-is seen late s, field-fault-is seen)
-    (split (eqb (found seen) 0) (λ t. rw (t, hot-moved seen late (told seen (eqb-true (found seen) 0 t)))) (λ t. rw t))
+    (split (eqb (found seen) 0) (λ t. rw (t, hot-moved seen late (s .known late .0) (told seen (eqb-true (found seen) 0 t)))) (λ t. rw t))
 
 -- Past the last field.
 end-does : (seen : List ℕ) (b : ℕ) → 3 ≤ bars seen → pastOf (hotOf seen) b ≡ stepFor (endFault seen b) (hotOf (b ∷ seen))

@@ -7,7 +7,7 @@ use lib.Dec.{eqb, leb, ltb}
 use lib.ListN.{getD}
 use Rattle.layout.specs.Pick.{pick}
 use Rattle.layout.specs.Rows.{rowCount, none, N, level, limit, fields, block, parent, isOpening, isClosing, row0000, row9990, row9999, rowOfCode}
-use Rattle.layout.specs.Kinds.{kind}
+use Rattle.layout.specs.Kinds.{opens, kind}
 use Rattle.layout.specs.Packed.{packedRows, parentColumn, packedKinds, startColumn, slotTable, kindNumber}
 use Rattle.rules.specs.Bytes.{bar, CR, LF, isEndByte}
 use Rattle.rules.specs.Order.{isData}
@@ -143,7 +143,7 @@ unfoldable pub dueOf : Hot → ℕ
 dueOf h = pick (eqb (h .row) row9999) (h .lines + 1) (h .since + 1 + pick (eqb (block (h .row)) (block row9999)) 1 0)
 
 unfoldable pub saysOf : Hot → ℕ
-saysOf h = pick (eqb (h .bars) 2 && isOpening (h .row)) (pick (eqb (h .field .value) 0) data0 data1) (h .says)
+saysOf h = pick (eqb (h .kind) (kindNumber opens)) (pick (eqb (h .field .value) 0) data0 data1) (h .says)
 
 unfoldable pub fieldBarOf : Hot → ℕ → Step
 fieldBarOf h n =

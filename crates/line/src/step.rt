@@ -7,6 +7,7 @@ ghost use Rattle.layout.specs.Rows.{rowCount};
 ghost use Rattle.layout.specs.Packed.{packedRows, parentColumn, packedKinds, startColumn, slotTable, kindNumber};
 ghost use Rattle.layout.specs.Kinds.{kind};
 ghost use Rattle.rules.specs.Bytes.{isEndByte};
+ghost use Rattle.field.specs.Streaming.{faultOf};
 ghost use Rattle.line.specs.Machine.{Fit, Tables, wordRow, codeBarOf, dueOf, saysOf, fieldBarOf, barOf, controlOf, pastOf, startOf, stepOf};
 use crate::hot::CODE_KIND;
 use crate::hot::Hot;
@@ -19,12 +20,16 @@ use crate::order::WITHOUT_DATA;
 use crate::order::has_room;
 use crate::order::misplaced;
 use crate::order::stands;
+use field::bytes::CLASSES;
+use field::bytes::COUNT;
+use field::bytes::FREE;
+use field::bytes::OPENS;
+use field::fault::fault;
 use layout::codes::SLOTS;
 use layout::codes::row_of_code;
 use layout::kinds::FIELDS;
 use layout::kinds::kind_at;
 use layout::roles::block_at;
-use layout::roles::is_opening;
 use layout::rows::ENTRIES;
 use layout::rows::ROWS;
 use layout::rows::fields_at;
@@ -46,6 +51,9 @@ const CODE_LENGTH: u64 = 4;
 
 // The place of block 9 in the order of blocks.
 const LAST_BLOCK: u64 = 6;
+
+// The kind of field 2 of an opening: one digit.
+const OPENS_KIND: u64 = OPENS + CLASSES;
 
 pub enum Step {
     Next(Hot),
@@ -133,16 +141,26 @@ fn due(rows: &[u64; ENTRIES], h: Hot) -> u64
     h.since + 1
 }
 
-// Field 2 of an opening says whether data is to come.
-fn says(rows: &[u64; ENTRIES], h: Hot) -> u64
+// The rule that the field at hand breaks, or 0. Of a free field nothing is asked, and what is due is asked of counts alone.
+fn found(rows: &[u64; ENTRIES], h: Hot) -> u64
     requires { ⌜ Fit h ⌝ }
     requires { ⌜ now rows ≡ packedRows ⌝ }
+    ensures { λ n. ⌜ n ≡ faultOf (h .kind) (h .field) (dueOf h) ⌝ }
+{
+    if h.kind == FREE {
+        return 0;
+    }
+    if h.kind % CLASSES == COUNT {
+        return fault(h.kind, h.field, due(rows, h));
+    }
+    fault(h.kind, h.field, 0)
+}
+
+// Field 2 of an opening says whether data is to come.
+fn says(h: Hot) -> u64
     ensures { λ n. ⌜ n ≡ saysOf h ⌝ }
 {
-    if h.bars != 2 {
-        return h.says;
-    }
-    if !is_opening(rows, h.row) {
+    if h.kind != OPENS_KIND {
         return h.says;
     }
     let f = h.field;
@@ -174,7 +192,7 @@ fn field_bar(
         r,
         h.fields,
         kind_of(rows, kinds, starts, r, h.bars + 1),
-        says(rows, h),
+        says(h),
     ))
 }
 
@@ -206,14 +224,7 @@ fn bar(
             word_row(rows, slots, h),
         );
     }
-    let f = h.field;
-    field_bar(
-        h,
-        rows,
-        kinds,
-        starts,
-        field::fault::fault(h.kind, f, due(rows, h)),
-    )
+    field_bar(h, rows, kinds, starts, found(rows, h))
 }
 
 fn is_end_byte(b: u8) -> bool

@@ -18,11 +18,8 @@ returns : tie.Need-returns
 unfolding barOf
 returns c = rw (eq-eqb _ _ (c .before .before .if1 .taken), ← c .before .word-row .ensures) (c .code-bar .ensures)
 
-due-requires : tie.Need-due-requires
-due-requires c κs = search needs
-
-fault-requires : tie.Need-fault-requires
-fault-requires c κs = search needs
+found-requires : tie.Need-found-requires
+found-requires c κs = search needs
 
 field-bar-requires : tie.Need-field-bar-requires
 field-bar-requires c κs = search needs
@@ -31,9 +28,8 @@ returns-2 : tie.Need-returns-2
 unfolding barOf
 returns-2 c =
     rw (
-      ne-eqb _ _ (c .before .before .before .before .if1 .left),
-      ← c .before .before .due .ensures,
-      ← c .before .fault .ensures,
+      ne-eqb _ _ (c .before .before .if1 .left),
+      ← c .before .found .ensures,
     ) (c .field-bar .ensures)
 
 pub bar-spec : {M : Type 1} → statement M
@@ -43,7 +39,6 @@ bar-spec =
     word-row-requires
     code-bar-requires
     returns
-    due-requires
-    fault-requires
+    found-requires
     field-bar-requires
     returns-2)
