@@ -6,6 +6,7 @@ use lib.Dec.{eqb, leb, ltb}
 use lib.ListN.{getD}
 use Rattle.layout.specs.Pick.{pick}
 use Rattle.layout.specs.Text.{bytes}
+use Rattle.layout.specs.Packed.{brasilClass, cClass, codeClass, countClass, dateClass, decimalsClass, freeClass, lfpdClass, nClass, opensClass}
 use Rattle.rules.specs.Fields.{isDigit, isDate, comma}
 use Rattle.field.specs.declared.bytes.Field.{Field}
 
@@ -58,16 +59,16 @@ decimalWith f b =
 
 -- of free fields and texts only the length is asked
 unfoldable pub isPlain : ℕ → Bool
-isPlain class = eqb class 0 || eqb class 2
+isPlain class = eqb class freeClass || eqb class cClass
 
 unfoldable pub withByte : ℕ → Field → ℕ → Field
 withByte kind f b =
     let class = kind % 16 in
     pick (isPlain class) (longer f (f .wrong) (f .value))
-    (pick (eqb class 1) (codeWith f b)
-    (pick (eqb class 5) (decimalWith f b)
-    (pick (eqb class 7) (textWith (bytes "LFPD") f b)
-    (pick (eqb class 8) (textWith (bytes "Brasil") f b) (digitWith f b)))))
+    (pick (eqb class codeClass) (codeWith f b)
+    (pick (eqb class decimalsClass) (decimalWith f b)
+    (pick (eqb class lfpdClass) (textWith (bytes "LFPD") f b)
+    (pick (eqb class brasilClass) (textWith (bytes "Brasil") f b) (digitWith f b)))))
 
 -- the field of a kind after the bytes of a word, the latest first
 unfoldable pub fieldAfter : ℕ → List ℕ → Field
@@ -76,21 +77,21 @@ fieldAfter kind (b ∷ w) = withByte kind (fieldAfter kind w) b
 
 -- what the bar finds: the rule's number, 0 where none is broken; `due` is what a count must state
 unfoldable pub emptyFault : ℕ → ℕ
-emptyFault class = pick (eqb class 9) 12 (pick (eqb class 10) 13 0)
+emptyFault class = pick (eqb class opensClass) 12 (pick (eqb class countClass) 13 0)
 
 unfoldable pub rightForm : ℕ → ℕ → Field → Bool
-rightForm class size f = eqb (f .wrong) 0 && (not (eqb class 5) || eqb (f .value) (size + 1))
+rightForm class size f = eqb (f .wrong) 0 && (not (eqb class decimalsClass) || eqb (f .value) (size + 1))
 
 unfoldable pub isExact : ℕ → Bool
-isExact class = eqb class 3 || eqb class 6 || eqb class 9
+isExact class = eqb class nClass || eqb class dateClass || eqb class opensClass
 
 unfoldable pub rightSize : ℕ → ℕ → ℕ → Bool
 rightSize class size length = not (isExact class) || eqb length size
 
 unfoldable pub contentFault : ℕ → ℕ → ℕ → ℕ
 contentFault class value due =
-    pick (eqb class 6) (pick (isDate value) 0 12)
-    (pick (eqb class 9) (pick (leb value 1) 0 12) (pick (eqb class 10) (pick (eqb value due) 0 13) 0))
+    pick (eqb class dateClass) (pick (isDate value) 0 12)
+    (pick (eqb class opensClass) (pick (leb value 1) 0 12) (pick (eqb class countClass) (pick (eqb value due) 0 13) 0))
 
 unfoldable pub numberFault : ℕ → ℕ → Field → ℕ → ℕ
 numberFault class size f due =
@@ -102,14 +103,14 @@ isFixed f size = eqb (f .wrong) 0 && eqb (f .length) size
 
 unfoldable pub textFault : ℕ → ℕ → Field → ℕ
 textFault class size f =
-    pick (ltb size (f .length)) 11 (pick (eqb class 2 || isFixed f size) 0 12)
+    pick (ltb size (f .length)) 11 (pick (eqb class cClass || isFixed f size) 0 12)
 
 unfoldable pub isTextClass : ℕ → Bool
-isTextClass class = eqb class 2 || eqb class 7 || eqb class 8
+isTextClass class = eqb class cClass || eqb class lfpdClass || eqb class brasilClass
 
 unfoldable pub faultOf : ℕ → Field → ℕ → ℕ
 faultOf kind f due =
     let class = kind % 16 in
     let size = kind / 16 in
-    pick (ltb class 2) 0
+    pick (ltb class cClass) 0
     (pick (isTextClass class) (textFault class size f) (numberFault class size f due))

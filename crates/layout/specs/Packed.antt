@@ -25,19 +25,53 @@ parentColumn = column parent
 unfoldable pub startColumn : List ℕ
 startColumn = column start
 
--- a kind: its class, and 16 times its size; of a kind that has no size, its class alone
+-- the classes of kinds
+abbrev pub freeClass : ℕ
+freeClass = 0
+
+abbrev pub codeClass : ℕ
+codeClass = 1
+
+abbrev pub cClass : ℕ
+cClass = 2
+
+abbrev pub nClass : ℕ
+nClass = 3
+
+abbrev pub nAnyClass : ℕ
+nAnyClass = 4
+
+abbrev pub decimalsClass : ℕ
+decimalsClass = 5
+
+abbrev pub dateClass : ℕ
+dateClass = 6
+
+abbrev pub lfpdClass : ℕ
+lfpdClass = 7
+
+abbrev pub brasilClass : ℕ
+brasilClass = 8
+
+abbrev pub opensClass : ℕ
+opensClass = 9
+
+abbrev pub countClass : ℕ
+countClass = 10
+
+-- a kind: its class, and 16 times its size; where the size is not asked of the field, it is 0
 unfoldable pub kindNumber : Kind → ℕ
-kindNumber free = 0
-kindNumber codeField = 1
-kindNumber (C n) = 2 + 16 * n
-kindNumber (N n) = 3 + 16 * n
-kindNumber N- = 4
-kindNumber (decimals d) = 5 + 16 * d
-kindNumber date = 6 + 16 * 8
-kindNumber lfpd = 7 + 16 * 4
-kindNumber brasil = 8 + 16 * 6
-kindNumber opens = 9 + 16 * 1
-kindNumber count = 10
+kindNumber free = freeClass
+kindNumber codeField = codeClass
+kindNumber (C n) = cClass + 16 * n
+kindNumber (N n) = nClass + 16 * n
+kindNumber N- = nAnyClass
+kindNumber (decimals d) = decimalsClass + 16 * d
+kindNumber date = dateClass + 16 * 8
+kindNumber lfpd = lfpdClass + 16 * 4
+kindNumber brasil = brasilClass + 16 * 6
+kindNumber opens = opensClass + 16 * 1
+kindNumber count = countClass
 
 -- "flat constant table of 995 field kinds, indexed through row starts"
 unfoldable pub flatKinds : List Kind

@@ -1,6 +1,5 @@
 // Where a line can stand, told from the row of the last line ended; and whether its row has room under the parent line.
 ghost use mathlib.Core.Path.{_≡_};
-ghost use mathlib.Core.Bool.{_&&_, _||_, not};
 ghost use Prim.Native.Nat.{_≤_, _<_};
 ghost use Rattle.layout.specs.Rows.{rowCount, level};
 ghost use Rattle.layout.specs.Packed.{packedRows, parentColumn};

@@ -1,8 +1,6 @@
 // One byte: the next state, or the broken rule with the field.
 ghost use mathlib.Core.Path.{_≡_};
-ghost use mathlib.Core.Bool.{_&&_, _||_};
 ghost use Prim.Native.Nat.{_≤_, _<_, _+_};
-ghost use lib.Dec.{eqb};
 ghost use Rattle.layout.specs.Rows.{rowCount};
 ghost use Rattle.layout.specs.Packed.{packedRows, parentColumn, packedKinds, startColumn, slotTable, kindNumber};
 ghost use Rattle.layout.specs.Kinds.{kind};
@@ -45,6 +43,29 @@ const BLANK: u8 = 32;
 
 // A file has at most so many bytes.
 const BYTE_LIMIT: u64 = 4294967295;
+
+// The rules that a byte can break here, by 01's numbers; those of a field's contents are the crate field's.
+const NOT_A_BAR: u64 = 1;
+
+const CONTROL_BYTE: u64 = 2;
+
+const NO_SUCH_ROW: u64 = 3;
+
+const OUT_OF_PLACE: u64 = 4;
+
+const MISPLACED: u64 = 5;
+
+const ONE_TOO_MANY: u64 = 6;
+
+const FIELD_MISSING: u64 = 7;
+
+const PAST_LAST_FIELD: u64 = 8;
+
+const NO_CR_LF: u64 = 9;
+
+const AFTER_9999: u64 = 15;
+
+const TOO_LONG: u64 = 16;
 
 // A code's length.
 const CODE_LENGTH: u64 = 4;
@@ -105,16 +126,16 @@ fn code_bar(
     ensures { λ t. ⌜ t ≡ codeBarOf h (now (stamps .entry)) (now (occurrences .entry)) r ⌝ }
 {
     if r == ROWS {
-        return Step::Broken(3, 1);
+        return Step::Broken(NO_SUCH_ROW, 1);
     }
     if !stands(rows, parents, h.last, r) {
-        return Step::Broken(4, 1);
+        return Step::Broken(OUT_OF_PLACE, 1);
     }
     if misplaced(rows, h.says, r) {
-        return Step::Broken(5, 1);
+        return Step::Broken(MISPLACED, 1);
     }
     if !has_room(rows, parents, stamps, occurrences, r) {
-        return Step::Broken(6, 1);
+        return Step::Broken(ONE_TOO_MANY, 1);
     }
     Step::Next(moved(
         h,
@@ -240,10 +261,10 @@ fn control(h: Hot, b: u8) -> Step
     let f = h.field;
     if f.length == 0 {
         if is_end_byte(b) {
-            return Step::Broken(7, h.bars);
+            return Step::Broken(FIELD_MISSING, h.bars);
         }
     }
-    Step::Broken(2, h.bars)
+    Step::Broken(CONTROL_BYTE, h.bars)
 }
 
 // A byte past the last field.
@@ -257,15 +278,15 @@ fn past(h: Hot, rows: &[u64; ENTRIES], b: u8) -> Step
         if b == LF {
             return Step::Next(ended(rows, h));
         }
-        return Step::Broken(9, 0);
+        return Step::Broken(NO_CR_LF, 0);
     }
     if b == CR {
         return Step::Next(grown(h, b));
     }
     if b == LF {
-        return Step::Broken(9, 0);
+        return Step::Broken(NO_CR_LF, 0);
     }
-    Step::Broken(8, h.bars)
+    Step::Broken(PAST_LAST_FIELD, h.bars)
 }
 
 // A line's first byte.
@@ -274,10 +295,10 @@ fn first(h: Hot, b: u8) -> Step
     ensures { λ t. ⌜ t ≡ startOf h b ⌝ }
 {
     if h.last == ROW_9999 {
-        return Step::Broken(15, 0);
+        return Step::Broken(AFTER_9999, 0);
     }
     if b != BAR {
-        return Step::Broken(1, 0);
+        return Step::Broken(NOT_A_BAR, 0);
     }
     Step::Next(moved(h, h.row, h.fields, CODE_KIND, h.says))
 }
@@ -299,7 +320,7 @@ pub fn judge(
     ensures { λ t. ⌜ t ≡ stepOf h (now (stamps .entry)) (now (occurrences .entry)) b ⌝ }
 {
     if BYTE_LIMIT <= h.bytes {
-        return Step::Broken(16, 0);
+        return Step::Broken(TOO_LONG, 0);
     }
     if h.bars == 0 {
         return first(h, b);

@@ -96,29 +96,3 @@ going-next {p} {h₀} {cs₀} {ss₀} {os₀} {h} {cs} {ss} {os} {i} g l byte n 
       within = omega arith;
       held = rw (ec, es, eo) (held-next h n cs ss os (getD p i 0) (g .held) byte e);
     }
-
--- the arrays, where the byte is LF and where it is not
-module _ (h : Hot) (b : ℕ) (cs ss os : List ℕ) where
-  pub counts-lf : b ≡ LF → setOf cs (h .row) (entryOf cs (h .row) + 1) ≡ countsOf h b cs
-  unfolding countsOf
-  counts-lf e = rw (eq-eqb b LF e)
-
-  pub stamps-lf : b ≡ LF → (n : ℕ) → setOf ss (h .row) n ≡ stampsOf h n b ss
-  unfolding stampsOf
-  stamps-lf e n = rw (eq-eqb b LF e)
-
-  pub occurrences-lf : b ≡ LF → setOf os (h .row) (usedOf ss os (h .row) + 1) ≡ occurrencesOf h b ss os
-  unfolding occurrencesOf
-  occurrences-lf e = rw (eq-eqb b LF e)
-
-  pub counts-on : (b ≡ LF → ⊥) → cs ≡ countsOf h b cs
-  unfolding countsOf
-  counts-on e = rw (ne-eqb b LF e)
-
-  pub stamps-on : (b ≡ LF → ⊥) → (n : ℕ) → ss ≡ stampsOf h n b ss
-  unfolding stampsOf
-  stamps-on e n = rw (ne-eqb b LF e)
-
-  pub occurrences-on : (b ≡ LF → ⊥) → os ≡ occurrencesOf h b ss os
-  unfolding occurrencesOf
-  occurrences-on e = rw (ne-eqb b LF e)
