@@ -78,7 +78,7 @@ fn report(s: State) {
 
 // A report with room for one count too few.
 fn no_room(s: State) {
-    let mut counts = [0u64; 97];
+    let mut counts = [0u64; ROWS - 1];
     let told = sef::calls::report(s, &mut counts);
     if let Reported::NoRoom = told {
         io::write_all(STDOUT_FILENO, b"room 18\n");

@@ -1,13 +1,14 @@
+use Rattle.layout.specs.Rows.{rowCount}
 use Prim.Native.Nat.{_≤_, _-_}
 use borrow.Author.Needs.{needs}
 use Rattle.pieces.proofs.print_counts.Statement.{statement}
 use Rattle.pieces.proofs.print_counts.Tie as tie
 
 abbrev Inv-loop : tie.InvT-loop
-Inv-loop counts i₀ i = i ≤ 98
+Inv-loop counts i₀ i = i ≤ rowCount
 
 abbrev μ-loop : tie.MeasureT-loop
-μ-loop counts i₀ i = 98 - i
+μ-loop counts i₀ i = rowCount - i
 
 slice-aggregate-write-all : tie.Need-slice-aggregate-write-all Inv-loop μ-loop
 slice-aggregate-write-all c = search needs
