@@ -13,6 +13,7 @@ compare: kit cargo
 
 # Executed instructions per byte beside the C peer's. Not part of the tests.
 bench: kit
+	@[ -x target/bin/sefcheck ] || rt check sefcheck
 	@bench/bench.sh
 
 # A file at the byte limit, and one past it.

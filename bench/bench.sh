@@ -114,16 +114,13 @@ time_all() { # lines: program peer, taken in turns
 }
 
 times() {
-  if [ "$(uname -m)" != x86_64 ]; then
-    echo "times: compared on x86-64 only"
-    return
-  fi
   time_all | awk -v mb="$long" '
     NR == 1 || $1 < p { p = $1 }
     NR == 1 || $2 < q { q = $2 }
     END { printf "times over %d MB, best of %d: program %.3f s, peer %.3f s, ratio %.2f\n", mb, NR, p, q, p / q }'
 }
 
+[ "$(uname -m)" = x86_64 ] || stop "the checker's programs are x86-64: run this on such a machine"
 check_program "$@"
 dir=$(mktemp -d) || stop "no place for files"
 trap 'rm -rf "$dir"' EXIT
