@@ -13,7 +13,7 @@ use Rattle.layout.specs.Text.{bytes}
 use Rattle.layout.specs.Kinds.{Kind, codeField, free, C, N, N-, decimals, date, lfpd, brasil, opens, count}
 use Rattle.layout.specs.Packed.{kindNumber}
 use Rattle.rules.specs.Bytes.{empty}
-use Rattle.rules.specs.Fields.{isDigit, allDigits, value, isDecimal, isDate, same, isText, formOf, states}
+use Rattle.rules.specs.Fields.{isDigit, allDigits, value, isDecimal, isDate, sameBytes, isText, formOf, states}
 use Rattle.field.specs.declared.bytes.Field.{Field}
 use Rattle.field.specs.Streaming.{cap, digitWith, textWith, decimalWith, isPlain, withByte, fieldAfter, emptyFault, rightForm, isExact, rightSize, contentFault, numberFault, textFault, isTextClass, faultOf}
 use Rattle.field.specs.Ruled.{ruled}
@@ -66,10 +66,10 @@ C-bar s due (b ∷ w) =
     ∙ ap (λ n. pick (ltb s n) 11 0) (length-is (2 + 16 * s) (b ∷ w)) ∙ ap (λ t. pick t 11 0) (over s (suc (length w)))
 
 module _ (kind c : ℕ) (text : List ℕ) (on : (f : Field) (b : ℕ) → withByte kind f b ≡ textWith text f b) (other : eqb c 2 ≡ false) where
-  text-bar : (w : List ℕ) → textFault c (length text) (fieldAfter kind w) ≡ pick (not (leb (length w) (length text))) 11 (pick (not (same w (reverse text))) 12 0)
+  text-bar : (w : List ℕ) → textFault c (length text) (fieldAfter kind w) ≡ pick (not (leb (length w) (length text))) 11 (pick (not (sameBytes w (reverse text))) 12 0)
   unfolding textFault
   text-bar w =
-      rw (text-is kind text on w, other, length-is kind w, over (length text) (length w), turned (same w (reverse text)) 12)
+      rw (text-is kind text on w, other, length-is kind w, over (length text) (length w), turned (sameBytes w (reverse text)) 12)
 
 lfpd-bar : (due : ℕ) (w : List ℕ) → Agrees lfpd due w
 unfolding kindNumber faultOf isTextClass withByte isPlain fieldAfter ruled formOf empty isText bytes
@@ -156,12 +156,12 @@ zero-or-one b h =
     (λ s. rw (t, s) (lt-leb (min cap (0 + (b - 48))) 1 (omega (arith, eqb-false b 48 t, eqb-false b 49 s)))))
 
 one-digit : (b : ℕ) (w : List ℕ) → allDigits (b ∷ w) ≡ true → eqb (suc (length w)) 1 ≡ true → leb (min cap (value (b ∷ w))) 1 ≡ (isText "0" (b ∷ w) || isText "1" (b ∷ w))
-unfolding isDigit allDigits value isText same bytes
+unfolding isDigit allDigits value isText sameBytes bytes
 one-digit b [] p q = zero-or-one b (leb-true 48 b (and-left (leb 48 b) (leb b 57) (and-left (isDigit b) true p)))
 one-digit b (c ∷ w) p q = absurd (let e = eqb-true (suc (suc (length w))) 1 q in omega arith)
 
 opens-bar : (due : ℕ) (w : List ℕ) → Agrees opens due w
-unfolding kindNumber faultOf isTextClass withByte isPlain fieldAfter numberFault emptyFault rightSize isExact contentFault ruled formOf empty isText same bytes
+unfolding kindNumber faultOf isTextClass withByte isPlain fieldAfter numberFault emptyFault rightSize isExact contentFault ruled formOf empty isText sameBytes bytes
 opens-bar due [] = refl
 opens-bar due (b ∷ w) =
     let text = isText "0" (b ∷ w) || isText "1" (b ∷ w) in

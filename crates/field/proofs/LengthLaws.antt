@@ -14,7 +14,7 @@ use Rattle.layout.specs.Kinds.{codeField}
 use Rattle.layout.specs.Packed.{kindNumber}
 use Rattle.rules.specs.Fields.{isDigit}
 use Rattle.field.specs.declared.bytes.Field.{Field}
-use Rattle.field.specs.Streaming.{Fit, cap, fresh, longer, codeWith, valueWith, digitWith, textWith, decimalsWith, decimalWith, isPlain, withByte, fieldAfter}
+use Rattle.field.specs.Streaming.{FieldFit, cap, emptyField, longer, codeWith, valueWith, digitWith, textWith, decimalsWith, decimalWith, isPlain, withByte, fieldAfter}
 
 -- what holds of both choices holds of the choice
 either : {A : Type 0} (P : A → Type 0) (t : Bool) {a b : A} → P a → P b → P (pick t a b)
@@ -55,19 +55,19 @@ unfolding fieldAfter withByte isPlain kindNumber codeNumber
 code-is [] = refl
 code-is (b ∷ w) = ap (λ v. v % 16777216 * 256 + b) (code-is w)
 
-pub fit-fresh : Fit fresh
+pub fit-fresh : FieldFit emptyField
 fit-fresh = record { length = omega arith; value = omega arith }
 
-fit-longer : (f : Field) → f .length < 4294967296 → (wrong value : ℕ) → value ≤ cap → Fit (longer f wrong value)
+fit-longer : (f : Field) → f .length < 4294967296 → (wrong value : ℕ) → value ≤ cap → FieldFit (longer f wrong value)
 fit-longer f h wrong value v = record { length = omega arith; value = v }
 
-pub fit-after : {f : Field} {b : ℕ} → Fit f → b < 256 → f .length < 4294967296 → (kind : ℕ) → Fit (withByte kind f b)
+pub fit-after : {f : Field} {b : ℕ} → FieldFit f → b < 256 → f .length < 4294967296 → (kind : ℕ) → FieldFit (withByte kind f b)
 unfolding textWith decimalWith digitWith valueWith decimalsWith
 fit-after {f} {b} fit hb h kind =
-    by-class Fit kind f b
+    by-class FieldFit kind f b
     (fit-longer f h _ _ (fit .value))
     (fit-longer f h _ _ (omega (arith, mod-lt (f .value) {m = 16777216} (omega arith))))
-    (either Fit (isDigit b)
+    (either FieldFit (isDigit b)
     (fit-longer f h _ _ (either (λ v. v ≤ cap) (eqb (f .value) 0) (omega arith) (omega arith)))
     (fit-longer f h _ _ (omega arith)))
     (λ text. fit-longer f h _ _ (fit .value))

@@ -12,7 +12,7 @@ use Rattle.layout.specs.Text.{bytes}
 use Rattle.layout.specs.Kinds.{opens}
 use Rattle.layout.specs.Packed.{kindNumber}
 use Rattle.rules.specs.Bytes.{empty}
-use Rattle.rules.specs.Fields.{allDigits, same, isText, formOf}
+use Rattle.rules.specs.Fields.{allDigits, sameBytes, isText, formOf}
 use Rattle.field.specs.Streaming.{valueWith, digitWith, isPlain, withByte, fieldAfter}
 use Rattle.field.specs.Ruled.{ruled}
 use Rattle.rules.proofs.TestLaws.{split}
@@ -33,9 +33,9 @@ digit-text due w e =
     (λ t. inr (same-eq w (49 ∷ []) (rw t at (content-right (not (empty w) && not (allDigits w)) (not (empty w) && not (eqb (length w) 1)) (isText "0" w || isText "1" w) e))))
 
 pub opens-zero : (due : ℕ) (w : List ℕ) → ruled (formOf opens) due w ≡ 0 → isText "0" w ≡ eqb (fieldAfter (kindNumber opens) w .value) 0
-unfolding isText same bytes kindNumber fieldAfter withByte isPlain digitWith valueWith
+unfolding isText sameBytes bytes kindNumber fieldAfter withByte isPlain digitWith valueWith
 opens-zero due w e = ⊎-elim (λ p. rw p) (λ p. rw p) (digit-text due w e)
 
 pub opens-one : (due : ℕ) (w : List ℕ) → ruled (formOf opens) due w ≡ 0 → isText "1" w ≡ eqb (fieldAfter (kindNumber opens) w .value) 1
-unfolding isText same bytes kindNumber fieldAfter withByte isPlain digitWith valueWith
+unfolding isText sameBytes bytes kindNumber fieldAfter withByte isPlain digitWith valueWith
 opens-one due w e = ⊎-elim (λ p. rw p) (λ p. rw p) (digit-text due w e)

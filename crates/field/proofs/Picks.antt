@@ -67,15 +67,15 @@ pub same-field : (l w w′ v v′ : ℕ) → w ≡ w′ → v ≡ v′ → field
 same-field l w w′ v v′ p q = rw (p, q)
 
 -- what a call answered, said of its definition
-pub told : (r t v : Bool) → r ≡ t → r ≡ v → t ≡ v
-told r t v p q = sym p ∙ q
+pub thus : (r t v : Bool) → r ≡ t → r ≡ v → t ≡ v
+thus r t v p q = sym p ∙ q
 
-pub told-no : (r t : Bool) → r ≡ t → not r ≡ true → t ≡ false
-told-no r t p q = sym p ∙ not-true r q
+pub thus-no : (r t : Bool) → r ≡ t → not r ≡ true → t ≡ false
+thus-no r t p q = sym p ∙ not-true r q
 
-pub told-yes : (r t : Bool) → r ≡ t → not r ≡ false → t ≡ true
-told-yes r t p q = sym p ∙ not-false r q
+pub thus-yes : (r t : Bool) → r ≡ t → not r ≡ false → t ≡ true
+thus-yes r t p q = sym p ∙ not-false r q
 
 pub ruleset tests = (refl, eq-eqb, ne-eqb, le-leb, lt-leb, lt-ltb, le-ltb, and-yes, and-no-left, and-no-right, or-yes-left, or-yes-right, or-no, not-yes, not-no)
 
-pub ruleset called = (then-pick, else-pick, same-field, tests, true-is, false-is, and-rest, and-first, or-rest, or-first, told, told-no, told-yes)
+pub ruleset called = (then-pick, else-pick, same-field, tests, true-is, false-is, and-rest, and-first, or-rest, or-first, thus, thus-no, thus-yes)

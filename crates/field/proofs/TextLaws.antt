@@ -8,7 +8,7 @@ use lib.Dec.{eqb}
 use lib.ListN.{length, getD, take, length-reverse}
 use lib.Seq.{take-suc, take-length, length-take-le}
 use borrow.Author.Tests.{eqb-true, eqb-false, eq-eqb}
-use Rattle.rules.specs.Fields.{same}
+use Rattle.rules.specs.Fields.{sameBytes}
 use Rattle.field.specs.declared.bytes.Field.{Field}
 use Rattle.field.specs.Streaming.{matches, textWith, isFixed, withByte, fieldAfter}
 use Rattle.rules.proofs.TestLaws.{and-left, and-right}
@@ -20,18 +20,18 @@ unfoldable fits : List ℕ → List ℕ → Bool
 fits text [] = true
 fits text (b ∷ w) = matches text (length w) b && fits text w
 
-same-refl : (w : List ℕ) → same w w ≡ true
-unfolding same
+same-refl : (w : List ℕ) → sameBytes w w ≡ true
+unfolding sameBytes
 same-refl [] = refl
 same-refl (b ∷ w) = rw (eq-eqb b b refl) (same-refl w)
 
-pub same-eq : (v w : List ℕ) → same v w ≡ true → v ≡ w
-unfolding same
+pub same-eq : (v w : List ℕ) → sameBytes v w ≡ true → v ≡ w
+unfolding sameBytes
 same-eq [] [] e = refl
 same-eq [] (c ∷ cs) e = search e
 same-eq (b ∷ bs) [] e = search e
 same-eq (b ∷ bs) (c ∷ cs) e =
-    ap₂ _∷_ (eqb-true b c (and-left (eqb b c) (same bs cs) e)) (same-eq bs cs (and-right (eqb b c) (same bs cs) e))
+    ap₂ _∷_ (eqb-true b c (and-left (eqb b c) (sameBytes bs cs) e)) (same-eq bs cs (and-right (eqb b c) (sameBytes bs cs) e))
 
 one-more : (text : List ℕ) (k : ℕ) → k < length text → reverse (take (suc k) text) ≡ getD text k 256 ∷ reverse (take k text)
 one-more text k h = ap reverse (take-suc text k 256 h) ∙ reverse-append (take k text) (getD text k 256 ∷ [])
@@ -53,15 +53,15 @@ take-fits text (suc k) h =
     (take-fits text k (omega arith))
 
 -- what fits the text and is as long is the text
-fits-whole : (text w : List ℕ) → (fits text w && eqb (length w) (length text)) ≡ same w (reverse text)
-fits-whole text w = go (fits text w) refl (eqb (length w) (length text)) refl (same w (reverse text)) refl
+fits-whole : (text w : List ℕ) → (fits text w && eqb (length w) (length text)) ≡ sameBytes w (reverse text)
+fits-whole text w = go (fits text w) refl (eqb (length w) (length text)) refl (sameBytes w (reverse text)) refl
   where
-    go : (f : Bool) → fits text w ≡ f → (l : Bool) → eqb (length w) (length text) ≡ l → (s : Bool) → same w (reverse text) ≡ s → (f && l) ≡ s
+    go : (f : Bool) → fits text w ≡ f → (l : Bool) → eqb (length w) (length text) ≡ l → (s : Bool) → sameBytes w (reverse text) ≡ s → (f && l) ≡ s
     go true a true b true c = refl
     go true a true b false c =
         let n = eqb-true (length w) (length text) b in
         let e : w ≡ reverse text = fits-take text w (omega arith) a ∙ ap (λ k. reverse (take k text)) n ∙ ap reverse (take-length text) in
-        sym (same-refl (reverse text)) ∙ ap (λ v. same v (reverse text)) (sym e) ∙ c
+        sym (same-refl (reverse text)) ∙ ap (λ v. sameBytes v (reverse text)) (sym e) ∙ c
     go true a false b true c =
         absurd (eqb-false (length w) (length text) b (ap length (same-eq w (reverse text) c) ∙ length-reverse text))
     go true a false b false c = refl
@@ -79,6 +79,6 @@ module _ (kind : ℕ) (text : List ℕ) (on : (f : Field) (b : ℕ) → withByte
       ∙ right-on (matches text (fieldAfter kind w .length) b) (fieldAfter kind w .wrong)
       ∙ ap₂ (λ n t. matches text n b && t) (length-is kind w) (text-right w)
 
-  pub text-is : (w : List ℕ) → isFixed (fieldAfter kind w) (length text) ≡ same w (reverse text)
+  pub text-is : (w : List ℕ) → isFixed (fieldAfter kind w) (length text) ≡ sameBytes w (reverse text)
   unfolding isFixed
   text-is w = rw (text-right w, length-is kind w) (fits-whole text w)

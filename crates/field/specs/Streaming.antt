@@ -15,13 +15,13 @@ abbrev pub cap : ℕ
 cap = 4294967296
 
 -- what may be asked: the stored numbers' ranges
-pub record Fit (f : Field) : Type 0 where
+pub record FieldFit (f : Field) : Type 0 where
   pub length : f .length ≤ 4294967296
   pub value : f .value ≤ cap
 
 -- before the first byte
-abbrev pub fresh : Field
-fresh = record { length = 0; wrong = 0; value = 0 }
+abbrev pub emptyField : Field
+emptyField = record { length = 0; wrong = 0; value = 0 }
 
 -- one more byte: of any field, of field 1, of digits, of a fixed text, of a number with decimals
 abbrev pub longer : Field → ℕ → ℕ → Field
@@ -72,7 +72,7 @@ withByte kind f b =
 
 -- the field of a kind after the bytes of a word, the latest first
 unfoldable pub fieldAfter : ℕ → List ℕ → Field
-fieldAfter kind [] = fresh
+fieldAfter kind [] = emptyField
 fieldAfter kind (b ∷ w) = withByte kind (fieldAfter kind w) b
 
 -- what the bar finds: the rule's number, 0 where none is broken; `due` is what a count must state

@@ -3,7 +3,7 @@ ghost use mathlib.Core.Path.{_≡_};
 ghost use Prim.Native.Nat.{_≤_};
 ghost use Rattle.layout.specs.Text.{bytes};
 ghost use Rattle.rules.specs.Fields.{isDigit};
-ghost use Rattle.field.specs.Streaming.{Fit, cap, fresh, codeWith, valueWith, digitWith, matches, textWith, commaFits, decimalsWith, decimalWith, isPlain, withByte};
+ghost use Rattle.field.specs.Streaming.{FieldFit, cap, emptyField, codeWith, valueWith, digitWith, matches, textWith, commaFits, decimalsWith, decimalWith, isPlain, withByte};
 
 // The classes of kinds: a kind's number is its class plus 16 times its size.
 pub const CLASSES: u64 = layout::kinds::SIZE as u64;
@@ -42,7 +42,7 @@ pub struct Field {
 
 // Before the first byte.
 pub fn start() -> Field
-    ensures { λ r. ⌜ r ≡ fresh ⌝ }
+    ensures { λ r. ⌜ r ≡ emptyField ⌝ }
 {
     Field {
         length: 0,
@@ -71,7 +71,7 @@ fn value_with(v: u64, b: u8) -> u64
 }
 
 fn code_with(f: Field, b: u8) -> Field
-    requires { ⌜ Fit f ⌝ }
+    requires { ⌜ FieldFit f ⌝ }
     ensures { λ r. ⌜ r ≡ codeWith f b ⌝ }
 {
     Field {
@@ -82,7 +82,7 @@ fn code_with(f: Field, b: u8) -> Field
 }
 
 fn digit_with(f: Field, b: u8) -> Field
-    requires { ⌜ Fit f ⌝ }
+    requires { ⌜ FieldFit f ⌝ }
     ensures { λ r. ⌜ r ≡ digitWith f b ⌝ }
 {
     let value = value_with(f.value, b);
@@ -112,7 +112,7 @@ fn has_at(text: &[u8], at: u64, b: u8) -> bool
 }
 
 fn text_with(text: &[u8], f: Field, b: u8) -> Field
-    requires { ⌜ Fit f ⌝ }
+    requires { ⌜ FieldFit f ⌝ }
     ensures { λ r. ⌜ r ≡ textWith (now (text .entry)) f b ⌝ }
 {
     if has_at(text, f.length, b) {
@@ -131,14 +131,14 @@ fn text_with(text: &[u8], f: Field, b: u8) -> Field
 
 // Each fixed text is mentioned in a function of its own: it is stored where that function starts, and not for every byte.
 fn lfpd_with(f: Field, b: u8) -> Field
-    requires { ⌜ Fit f ⌝ }
+    requires { ⌜ FieldFit f ⌝ }
     ensures { λ r. ⌜ r ≡ textWith (bytes "LFPD") f b ⌝ }
 {
     text_with(b"LFPD", f, b)
 }
 
 fn brasil_with(f: Field, b: u8) -> Field
-    requires { ⌜ Fit f ⌝ }
+    requires { ⌜ FieldFit f ⌝ }
     ensures { λ r. ⌜ r ≡ textWith (bytes "Brasil") f b ⌝ }
 {
     text_with(b"Brasil", f, b)
@@ -168,7 +168,7 @@ fn decimals_with(v: u64) -> u64
 }
 
 fn decimal_with(f: Field, b: u8) -> Field
-    requires { ⌜ Fit f ⌝ }
+    requires { ⌜ FieldFit f ⌝ }
     ensures { λ r. ⌜ r ≡ decimalWith f b ⌝ }
 {
     let length = f.length + 1;
@@ -202,7 +202,7 @@ fn is_plain(class: u64) -> bool
 
 // One more byte of a field of this kind.
 pub fn with_byte(kind: u64, f: Field, b: u8) -> Field
-    requires { ⌜ Fit f ⌝ }
+    requires { ⌜ FieldFit f ⌝ }
     ensures { λ r. ⌜ r ≡ withByte kind f b ⌝ }
 {
     let class = kind % CLASSES;

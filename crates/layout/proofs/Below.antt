@@ -28,25 +28,25 @@ below-at (suc n) test t k h =
     (λ (l : k < n). below-at n test (and-right (test n) (below n test) t) k l)
     (eq-or-lt-of-le (le-of-suc-le-suc h))
 
--- the same as the rule that the test computes
+-- the agree as the rule that the test computes
 pub below-equal : (n : ℕ) (f g : ℕ → ℕ) → T (below n (λ k. eqb (f k) (g k))) → (k : ℕ) → k < n → f k ≡ g k
 below-equal n f g t k h = eqb→eq (f k) (g k) (below-at n (λ k. eqb (f k) (g k)) t k h)
 
 pub below-most : (n : ℕ) (f g : ℕ → ℕ) → T (below n (λ k. leb (f k) (g k))) → (k : ℕ) → k < n → f k ≤ g k
 below-most n f g t k h = leb→le (f k) (g k) (below-at n (λ k. leb (f k) (g k)) t k h)
 
-abbrev pub same : Bool → Bool → Bool
-same true b = b
-same false b = not b
+abbrev pub agree : Bool → Bool → Bool
+agree true b = b
+agree false b = not b
 
-same-equal : (a b : Bool) → T (same a b) → a ≡ b
+same-equal : (a b : Bool) → T (agree a b) → a ≡ b
 same-equal true true t = refl
 same-equal true false t = absurd t
 same-equal false true t = absurd t
 same-equal false false t = refl
 
-pub below-same : (n : ℕ) (f g : ℕ → Bool) → T (below n (λ k. same (f k) (g k))) → (k : ℕ) → k < n → f k ≡ g k
-below-same n f g t k h = same-equal (f k) (g k) (below-at n (λ k. same (f k) (g k)) t k h)
+pub below-same : (n : ℕ) (f g : ℕ → Bool) → T (below n (λ k. agree (f k) (g k))) → (k : ℕ) → k < n → f k ≡ g k
+below-same n f g t k h = same-equal (f k) (g k) (below-at n (λ k. agree (f k) (g k)) t k h)
 
 -- of the numbers below n, those that are of a sort pass the test
 abbrev pub implies : Bool → Bool → Bool

@@ -10,11 +10,11 @@ use lib.Dec.{T, eqb}
 use lib.ListN.{length, getD, List·getD-eq-default}
 use borrow.Author.Tests.{ne-eqb}
 use Rattle.layout.specs.Text.{bytes, codeNumber, textNumber}
-use Rattle.layout.specs.Lists.{joined}
+use Rattle.layout.specs.Lists.{joinedParts}
 use Rattle.layout.specs.Rows.{rowTable, rowCount, listed, code, fields, isOpening, isClosing, row9999}
 use Rattle.layout.specs.Kinds.{Kind, free, opens, count, sheets, sheetOr, kindsOf, kind, fieldCount, start}
 use Rattle.layout.specs.Packed.{kindNumber, flatKinds}
-use Rattle.layout.proofs.Below.{below, below-at, below-equal, same, below-same}
+use Rattle.layout.proofs.Below.{below, below-at, below-equal, agree, below-same}
 use Rattle.layout.proofs.RowLaws.{mostFields, fields-most}
 use Rattle.layout.proofs.ListLaws.{Starts, part-ends, joined-at}
 
@@ -39,7 +39,7 @@ pub fields-within : (r : ℕ) → r < rowCount → start r + fields r ≤ fieldC
 fields-within r h = rw (← parts-fit r h, ← field-count) (part-ends rowCount kindsOf start starts r h)
 
 pub flat-count : length flatKinds ≡ fieldCount
-unfolding flatKinds joined kindsOf sheetOr sheets isOpening isClosing fields code listed rowTable textNumber codeNumber bytes
+unfolding flatKinds joinedParts kindsOf sheetOr sheets isOpening isClosing fields code listed rowTable textNumber codeNumber bytes
 flat-count = refl
 
 pub flat-kind : (r n : ℕ) → r < rowCount → 1 ≤ n → n ≤ fields r → getD flatKinds (start r + (n - 1)) free ≡ kind r n
@@ -59,7 +59,7 @@ ofKind k r n = eqb (kindNumber (kind r n)) (kindNumber k)
 
 -- the fields of kind k are field 2 of each row of a sort: tested at the fields that a row may have
 unfoldable seconds : Kind → (ℕ → Bool) → Bool
-seconds k sort = below rowCount (λ r. below (suc mostFields) (λ n. same (ofKind k r n) (eqb n 2 && sort r)))
+seconds k sort = below rowCount (λ r. below (suc mostFields) (λ n. agree (ofKind k r n) (eqb n 2 && sort r)))
 
 second-is :
     (k : Kind) (sort : ℕ → Bool) → eqb (kindNumber free) (kindNumber k) ≡ false → T (seconds k sort) →
@@ -70,7 +70,7 @@ second-is k sort f t r n h = go (decLt n (suc mostFields))
     go : Dec (n < suc mostFields) → ofKind k r n ≡ (eqb n 2 && sort r)
     go (yes l) =
         below-same (suc mostFields) (ofKind k r) (λ n. eqb n 2 && sort r)
-        (below-at rowCount (λ r. below (suc mostFields) (λ n. same (ofKind k r n) (eqb n 2 && sort r))) t r h) n l
+        (below-at rowCount (λ r. below (suc mostFields) (λ n. agree (ofKind k r n) (eqb n 2 && sort r))) t r h) n l
     go (no l) =
         let most = fields-most r (le-of-lt h) in
         let past : fields r < n = omega arith in

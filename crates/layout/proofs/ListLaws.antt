@@ -7,7 +7,7 @@ use native.Mathlib.Nat.{not-suc-le-zero, le-of-suc-le-suc, eq-or-lt-of-le, le-re
 use native.Mathlib.Omega.{arith}
 use lib.ListN.{length, getD, List·getD-append}
 use lib.Seq.{getD-append-add}
-use Rattle.layout.specs.Lists.{joined}
+use Rattle.layout.specs.Lists.{joinedParts}
 
 module _ {A : Type 0} where
   -- one entry more, that is the default: no entry changes
@@ -41,17 +41,17 @@ module _ {A : Type 0} where
   -- place k of part r is place i of the whole
   pub joined-at :
       (n : ℕ) (part : ℕ → List A) (start : ℕ → ℕ) → Starts n part start → (r k i : ℕ) (d : A)
-      → r < n → k < length (part r) → start 0 + i ≡ start r + k → getD (joined n part) i d ≡ getD (part r) k d
-  unfolding joined
+      → r < n → k < length (part r) → start 0 + i ≡ start r + k → getD (joinedParts n part) i d ≡ getD (part r) k d
+  unfolding joinedParts
   joined-at zero part start next r k i d l lk e = absurd (not-suc-le-zero l)
   joined-at (suc n) part start next zero k i d l lk e =
       let same : i ≡ k = omega arith in
-      rw same (List·getD-append (part 0) (joined n (λ j. part (suc j))) d k lk)
+      rw same (List·getD-append (part 0) (joinedParts n (λ j. part (suc j))) d k lk)
   joined-at (suc n) part start next (suc r) k i d l lk e =
       let here = next 0 (omega arith) in
       let past = part-ends (suc r) part start (λ q h. next q (omega arith)) 0 (omega arith) in
       let j = i - length (part 0) in
-      let later = joined n (λ q. part (suc q)) in
+      let later = joinedParts n (λ q. part (suc q)) in
       let after : i ≡ length (part 0) + j = omega arith in
       ap (λ (m : ℕ). getD (part 0 ++ later) m d) after ∙ getD-append-add (part 0) later j d
       ∙ joined-at n (λ q. part (suc q)) (λ q. start (suc q)) (λ q h. next (suc q) (suc-le-suc h)) r k j d (le-of-suc-le-suc l) lk (omega arith)

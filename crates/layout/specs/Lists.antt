@@ -8,6 +8,6 @@ tabulate zero f = []
 tabulate (suc n) f = f 0 ∷ tabulate n (λ k. f (suc k))
 
 -- the parts of the numbers below n, joined in order
-unfoldable pub joined : {A : Type 0} → ℕ → (ℕ → List A) → List A
-joined zero part = []
-joined (suc n) part = part 0 ++ joined n (λ k. part (suc k))
+unfoldable pub joinedParts : {A : Type 0} → ℕ → (ℕ → List A) → List A
+joinedParts zero part = []
+joinedParts (suc n) part = part 0 ++ joinedParts n (λ k. part (suc k))

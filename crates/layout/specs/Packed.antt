@@ -2,7 +2,7 @@
 use mathlib.Core.List.{List, [], _∷_, _++_, map}
 use Prim.Native.Nat.{ℕ, zero, suc, _+_, _*_, _%_}
 use lib.ListN.{replicate, set}
-use Rattle.layout.specs.Lists.{tabulate, joined}
+use Rattle.layout.specs.Lists.{tabulate, joinedParts}
 use Rattle.layout.specs.Text.{textNumber}
 use Rattle.layout.specs.Rows.{Listed, rowTable, noRow, rowCount, none, code, parent}
 use Rattle.layout.specs.Kinds.{Kind, codeField, free, C, N, N-, decimals, date, lfpd, brasil, opens, count, kindsOf, start}
@@ -75,7 +75,7 @@ kindNumber count = countClass
 
 -- "flat constant table of 995 field kinds, indexed through row starts"
 unfoldable pub flatKinds : List Kind
-flatKinds = joined rowCount kindsOf
+flatKinds = joinedParts rowCount kindsOf
 
 unfoldable pub packedKinds : List ℕ
 packedKinds = map kindNumber flatKinds

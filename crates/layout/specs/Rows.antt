@@ -19,8 +19,8 @@ abbrev row : String → ℕ → ℕ → ℕ → Listed
 row c f l o = record { code = c; fields = f; level = l; occurrence = o }
 
 -- "N any number"
-abbrev pub N : ℕ
-N = 0
+abbrev pub anyNumber : ℕ
+anyNumber = 0
 
 -- "P stands for 1/período or 1/data"
 abbrev pub P : ℕ
@@ -39,37 +39,37 @@ block0 =
     row "0000" 20 0 1 ∷
     row "0001" 2 1 1 ∷
     row "0005" 14 2 1 ∷
-    row "0025" 3 2 N ∷
+    row "0025" 3 2 anyNumber ∷
     row "0030" 18 2 1 ∷
     row "0100" 18 2 1 ∷
-    row "0150" 13 2 N ∷
+    row "0150" 13 2 anyNumber ∷
     row "0175" 10 3 1 ∷
-    row "0200" 5 2 N ∷
-    row "0205" 5 3 N ∷
-    row "0210" 9 3 N ∷
-    row "0215" 4 3 N ∷
-    row "0400" 4 2 N ∷
-    row "0450" 3 2 N ∷
-    row "0455" 2 3 N ∷
-    row "0460" 16 3 N ∷
-    row "0465" 24 3 N ∷
-    row "0470" 11 3 N ∷
+    row "0200" 5 2 anyNumber ∷
+    row "0205" 5 3 anyNumber ∷
+    row "0210" 9 3 anyNumber ∷
+    row "0215" 4 3 anyNumber ∷
+    row "0400" 4 2 anyNumber ∷
+    row "0450" 3 2 anyNumber ∷
+    row "0455" 2 3 anyNumber ∷
+    row "0460" 16 3 anyNumber ∷
+    row "0465" 24 3 anyNumber ∷
+    row "0470" 11 3 anyNumber ∷
     row "0990" 2 1 1 ∷
     []
 
 abbrev blockC : List Listed
 blockC =
     row "C001" 2 1 1 ∷
-    row "C020" 28 2 N ∷
+    row "C020" 28 2 anyNumber ∷
     row "C040" 6 3 1 ∷
     row "C300" 21 3 990 ∷
     row "C305" 2 4 1 ∷
     row "C310" 4 4 1 ∷
-    row "C550" 17 2 N ∷
-    row "C560" 14 3 N ∷
-    row "C600" 22 2 N ∷
+    row "C550" 17 2 anyNumber ∷
+    row "C560" 14 3 anyNumber ∷
+    row "C600" 22 2 anyNumber ∷
     row "C605" 8 3 1 ∷
-    row "C610" 17 3 N ∷
+    row "C610" 17 3 anyNumber ∷
     row "C615" 6 4 1 ∷
     row "C990" 2 1 1 ∷
     []
@@ -77,32 +77,32 @@ blockC =
 abbrev blockE : List Listed
 blockE =
     row "E001" 2 1 1 ∷
-    row "E003" 5 2 N ∷
-    row "E020" 30 2 N ∷
-    row "E025" 17 3 N ∷
-    row "E050" 16 2 N ∷
-    row "E055" 9 3 N ∷
-    row "E060" 23 2 N ∷
-    row "E065" 6 3 N ∷
-    row "E080" 18 2 N ∷
-    row "E085" 10 3 N ∷
-    row "E100" 25 2 N ∷
-    row "E105" 11 3 N ∷
-    row "E120" 25 2 N ∷
-    row "E140" 19 2 N ∷
+    row "E003" 5 2 anyNumber ∷
+    row "E020" 30 2 anyNumber ∷
+    row "E025" 17 3 anyNumber ∷
+    row "E050" 16 2 anyNumber ∷
+    row "E055" 9 3 anyNumber ∷
+    row "E060" 23 2 anyNumber ∷
+    row "E065" 6 3 anyNumber ∷
+    row "E080" 18 2 anyNumber ∷
+    row "E085" 10 3 anyNumber ∷
+    row "E100" 25 2 anyNumber ∷
+    row "E105" 11 3 anyNumber ∷
+    row "E120" 25 2 anyNumber ∷
+    row "E140" 19 2 anyNumber ∷
     row "E300" 3 2 P ∷
-    row "E305" 23 3 N ∷
-    row "E310" 10 3 N ∷
-    row "E330" 14 3 N ∷
+    row "E305" 23 3 anyNumber ∷
+    row "E310" 10 3 anyNumber ∷
+    row "E330" 14 3 anyNumber ∷
     row "E340" 24 3 P ∷
-    row "E350" 10 3 N ∷
-    row "E360" 11 3 N ∷
+    row "E350" 10 3 anyNumber ∷
+    row "E360" 11 3 anyNumber ∷
     row "E500" 4 2 P ∷
-    row "E520" 7 3 N ∷
-    row "E525" 7 3 N ∷
+    row "E520" 7 3 anyNumber ∷
+    row "E525" 7 3 anyNumber ∷
     row "E540" 16 3 P ∷
-    row "E550" 7 3 N ∷
-    row "E560" 10 3 N ∷
+    row "E550" 7 3 anyNumber ∷
+    row "E560" 10 3 anyNumber ∷
     row "E990" 2 1 1 ∷
     []
 
@@ -110,18 +110,18 @@ abbrev blockF : List Listed
 blockF =
     row "F001" 2 1 1 ∷
     row "F020" 6 2 P ∷
-    row "F025" 6 3 N ∷
-    row "F030" 6 4 N ∷
-    row "F035" 10 5 N ∷
+    row "F025" 6 3 anyNumber ∷
+    row "F030" 6 4 anyNumber ∷
+    row "F035" 10 5 anyNumber ∷
     row "F200" 4 2 P ∷
-    row "F205" 6 3 N ∷
-    row "F210" 3 3 N ∷
-    row "F215" 12 4 N ∷
-    row "F220" 8 5 N ∷
-    row "F225" 15 6 N ∷
-    row "F230" 6 6 N ∷
+    row "F205" 6 3 anyNumber ∷
+    row "F210" 3 3 anyNumber ∷
+    row "F215" 12 4 anyNumber ∷
+    row "F220" 8 5 anyNumber ∷
+    row "F225" 15 6 anyNumber ∷
+    row "F230" 6 6 anyNumber ∷
     row "F250" 4 2 P ∷
-    row "F255" 19 3 N ∷
+    row "F255" 19 3 anyNumber ∷
     row "F990" 2 1 1 ∷
     []
 
@@ -129,16 +129,16 @@ abbrev blockG : List Listed
 blockG =
     row "G001" 2 1 1 ∷
     row "G020" 4 2 P ∷
-    row "G025" 17 3 N ∷
-    row "G030" 11 3 N ∷
-    row "G050" 19 3 N ∷
-    row "G400" 10 3 N ∷
-    row "G410" 14 3 N ∷
+    row "G025" 17 3 anyNumber ∷
+    row "G030" 11 3 anyNumber ∷
+    row "G050" 19 3 anyNumber ∷
+    row "G400" 10 3 anyNumber ∷
+    row "G410" 14 3 anyNumber ∷
     row "G420" 24 3 P ∷
-    row "G430" 3 3 N ∷
-    row "G440" 7 3 N ∷
-    row "G450" 15 3 N ∷
-    row "G460" 15 4 N ∷
+    row "G430" 3 3 anyNumber ∷
+    row "G440" 7 3 anyNumber ∷
+    row "G450" 15 3 anyNumber ∷
+    row "G460" 15 4 anyNumber ∷
     row "G990" 2 1 1 ∷
     []
 
@@ -146,10 +146,10 @@ abbrev blockH : List Listed
 blockH =
     row "H001" 2 1 1 ∷
     row "H020" 12 2 P ∷
-    row "H030" 16 3 N ∷
-    row "H040" 3 3 N ∷
-    row "H050" 3 3 N ∷
-    row "H060" 3 3 N ∷
+    row "H030" 16 3 anyNumber ∷
+    row "H040" 3 3 anyNumber ∷
+    row "H050" 3 3 anyNumber ∷
+    row "H060" 3 3 anyNumber ∷
     row "H990" 2 1 1 ∷
     []
 
@@ -165,7 +165,7 @@ rowTable = block0 ++ blockC ++ blockE ++ blockF ++ blockG ++ blockH ++ block9
 
 -- of a line whose code has not come, or is none of these, only field 1 may still come
 abbrev pub noRow : Listed
-noRow = row "" 1 0 N
+noRow = row "" 1 0 anyNumber
 
 unfoldable pub listed : ℕ → Listed
 listed r = getD rowTable r noRow
@@ -184,7 +184,7 @@ occurrence r = listed r .occurrence
 
 -- "P .. is read as N at level 2 and as 1 at level 3"
 unfoldable pub limit : ℕ → ℕ
-limit r = pick (eqb (occurrence r) P) (pick (eqb (level r) 2) N 1) (occurrence r)
+limit r = pick (eqb (occurrence r) P) (pick (eqb (level r) 2) anyNumber 1) (occurrence r)
 
 -- "Blocks come in the order 0, C, E, F, G, H, 9": a block goes by its place in this order
 unfoldable pub blockLetters : List ℕ

@@ -28,7 +28,7 @@ use Rattle.field.proofs.FaultLaws.{fault-is}
 use Rattle.field.proofs.OpeningLaws.{opens-zero}
 use Rattle.line.specs.Machine.{dueOf}
 use Rattle.line.proofs.KindLaws.{count-row}
-use Rattle.line.proofs.HotOf.{hotOf, Told}
+use Rattle.line.proofs.HotOf.{hotOf, OpeningTold}
 
 -- what is due is asked of counts alone
 ruled-due : (f : Form) (m n : ℕ) (w : List ℕ) → (f .isCount ≡ true → m ≡ n) → ruled f m w ≡ ruled f n w
@@ -73,8 +73,8 @@ module _ (seen : List ℕ) (late : 2 ≤ bars seen) (s : Sound seen) where
       ∙ ruled-due (formOf k) (dueOf (hotOf seen)) (due (rowAtHand seen) (rows seen)) (word seen) due-is
 
 -- an opening's field 2 that its bar passes is 0 where its value is
-pub told : (seen : List ℕ) → found seen ≡ 0 → Told seen
-told seen z two o =
+pub opening-told : (seen : List ℕ) → found seen ≡ 0 → OpeningTold seen
+opening-told seen z two o =
     let k = opening-kind (rowAtHand seen) o in
     rw (two, k) (opens-zero (due (rowAtHand seen) (rows seen)) (word seen) (rw (two, k) at z))
 

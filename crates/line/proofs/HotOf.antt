@@ -122,11 +122,11 @@ module _ (seen : List ℕ) where
   hand-says = refl
 
   -- an opening's field 2 that its bar passes is 0 where its value is
-  abbrev pub Told : Type 0
-  Told = bars seen ≡ 2 → isOpening (rowAtHand seen) ≡ true → isText "0" (word seen) ≡ eqb (hotOf seen .field .value) 0
+  abbrev pub OpeningTold : Type 0
+  OpeningTold = bars seen ≡ 2 → isOpening (rowAtHand seen) ≡ true → isText "0" (word seen) ≡ eqb (hotOf seen .field .value) 0
 
   module _ (late : 2 ≤ bars seen) (known : rowAtHand seen < rowCount) where
-    says-bar : Told → says (bar ∷ seen) ≡ saysOf (hotOf seen)
+    says-bar : OpeningTold → says (bar ∷ seen) ≡ saysOf (hotOf seen)
     unfolding saysOf
     says-bar told =
         says-late (bar ∷ seen) (omega (arith, bars-bar seen)) ∙ hand-says-bar
@@ -140,7 +140,7 @@ module _ (seen : List ℕ) where
             (split (isOpening (rowAtHand seen)) (λ o. rw (o, told e o)) (λ o. rw o))
         go (no e) = rw (ne-eqb (bars seen) 2 e) (hand-says ∙ sym (says-late seen (omega arith)))
 
-    pub hot-moved : Told
+    pub hot-moved : OpeningTold
         → hotOf (bar ∷ seen) ≡ movedOf (hotOf seen) (rowAtHand seen) (fields (rowAtHand seen)) (kindNumber (kind (rowAtHand seen) (bars seen + 1))) (saysOf (hotOf seen))
     unfolding fieldAfter
     hot-moved told =

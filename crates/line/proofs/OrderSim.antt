@@ -10,7 +10,7 @@ use Rattle.layout.specs.Text.{bytes}
 use Rattle.layout.specs.Rows.{rowCount, isOpening, isClosing, parent, row0000, row9999}
 use Rattle.rules.specs.Bytes.{lines, rowOf, field, bars}
 use Rattle.rules.specs.Order.{last, canStand, startsFile, startsBlock, endsFile, hasRoom, underParent, isData}
-use Rattle.rules.specs.Fields.{same, isText}
+use Rattle.rules.specs.Fields.{sameBytes, isText}
 use Rattle.rules.specs.Rules.{openedBy}
 use Rattle.rules.proofs.TestLaws.{split, and-left, and-false}
 use Rattle.rules.proofs.Stood.{Stood}
@@ -38,7 +38,7 @@ stands-is before s r row =
 
 -- 5: no text is both 0 and 1
 one-text : (w : List ℕ) → isText "0" w ≡ true → isText "1" w ≡ false
-unfolding isText same bytes
+unfolding isText sameBytes bytes
 one-text [] e = refl
 one-text (b ∷ []) e = rw (eqb-true b 48 (and-left (eqb b 48) true e))
 one-text (b ∷ c ∷ w) e = and-false (eqb b 49)

@@ -6,20 +6,20 @@ use Prim.Native.Nat.{ℕ, zero, suc, _+_, _-_, _≤_}
 use lib.Dec.{eqb, leb, ltb}
 use lib.ListN.{getD}
 use Rattle.layout.specs.Pick.{pick}
-use Rattle.layout.specs.Rows.{rowCount, none, N, level, limit, fields, block, parent, isOpening, isClosing, row0000, row9990, row9999, rowOfCode}
+use Rattle.layout.specs.Rows.{rowCount, none, anyNumber, level, limit, fields, block, parent, isOpening, isClosing, row0000, row9990, row9999, rowOfCode}
 use Rattle.layout.specs.Kinds.{opens, kind}
 use Rattle.layout.specs.Packed.{packedRows, parentColumn, packedKinds, startColumn, slotTable, kindNumber}
 use Rattle.rules.specs.Bytes.{bar, CR, LF, isEndByte}
 use Rattle.rules.specs.Order.{isData}
-use Rattle.rules.proofs.OpenLaws.{climb}
+use Rattle.layout.specs.Climb.{climb}
 use Rattle.rules.specs.Rules.{byteLimit}
-use Rattle.field.specs.Streaming.{cap, fresh, withByte, faultOf}
+use Rattle.field.specs.Streaming.{cap, emptyField, withByte, faultOf}
 use Rattle.line.specs.declared.hot.Hot.{Hot}
 use Rattle.line.specs.declared.step.Step.{Step}
 use Rattle.line.specs.declared.step.Step.the-variants.{Next, Broken}
 
 -- what a step may be asked of: the ranges of the stored numbers
-pub record Fit (h : Hot) : Type 0 where
+pub record HotFit (h : Hot) : Type 0 where
   pub bytes : h .bytes ≤ 4294967296
   pub lines : h .lines ≤ h .bytes
   pub last : h .last ≤ rowCount
@@ -66,7 +66,7 @@ movedOf h row fields kind says =
       row = row;
       fields = fields;
       kind = kind;
-      field = fresh;
+      field = emptyField;
     }
 
 -- the lines since the last closing, once the line at hand has ended
@@ -86,7 +86,7 @@ endedOf h =
       row = none;
       fields = 1;
       kind = 1;
-      field = fresh;
+      field = emptyField;
     }
 
 -- Where a line can stand, told from the row of the last line.
@@ -114,7 +114,7 @@ unfoldable pub usedOf : List ℕ → List ℕ → ℕ → ℕ
 usedOf stamps occurrences r = pick (ltb (entryOf stamps (parent r)) (entryOf stamps r)) (entryOf occurrences r) 0
 
 unfoldable pub roomOf : List ℕ → List ℕ → ℕ → Bool
-roomOf stamps occurrences r = eqb (limit r) N || ltb (usedOf stamps occurrences r) (limit r)
+roomOf stamps occurrences r = eqb (limit r) anyNumber || ltb (usedOf stamps occurrences r) (limit r)
 
 -- what an opening says: 1 for its field 2 being 0, 2 for 1; of any other line 0
 abbrev pub data0 : ℕ

@@ -1,7 +1,7 @@
 // What changes with each byte: scalars of one width only, so that the byte loop keeps them in registers.
 ghost use mathlib.Core.Path.{_≡_};
 ghost use Rattle.layout.specs.Packed.{packedRows};
-ghost use Rattle.line.specs.Machine.{Fit, grownOf, movedOf, endedOf, sinceOf};
+ghost use Rattle.line.specs.Machine.{HotFit, grownOf, movedOf, endedOf, sinceOf};
 use field::bytes::Field;
 use layout::rows::ENTRIES;
 use layout::rows::ROWS;
@@ -29,7 +29,7 @@ pub struct Hot {
 
 // One more byte of the field at hand.
 pub fn grown(h: Hot, b: u8) -> Hot
-    requires { ⌜ Fit h ⌝ }
+    requires { ⌜ HotFit h ⌝ }
     ensures { λ r. ⌜ r ≡ grownOf h b ⌝ }
 {
     let f = h.field;
@@ -49,7 +49,7 @@ pub fn grown(h: Hot, b: u8) -> Hot
 
 // One more bar: a field of this kind begins, in a line of this row.
 pub fn moved(h: Hot, row: usize, fields: u64, kind: u64, says: u64) -> Hot
-    requires { ⌜ Fit h ⌝ }
+    requires { ⌜ HotFit h ⌝ }
     ensures { λ r. ⌜ r ≡ movedOf h row fields kind says ⌝ }
 {
     Hot {
@@ -68,7 +68,7 @@ pub fn moved(h: Hot, row: usize, fields: u64, kind: u64, says: u64) -> Hot
 
 // The lines since the last closing, once the line at hand has ended.
 fn since_with(rows: &[u64; ENTRIES], h: Hot) -> u64
-    requires { ⌜ Fit h ⌝ }
+    requires { ⌜ HotFit h ⌝ }
     requires { ⌜ now rows ≡ packedRows ⌝ }
     ensures { λ r. ⌜ r ≡ sinceOf h ⌝ }
 {
@@ -80,7 +80,7 @@ fn since_with(rows: &[u64; ENTRIES], h: Hot) -> u64
 
 // The line at hand has ended.
 pub fn ended(rows: &[u64; ENTRIES], h: Hot) -> Hot
-    requires { ⌜ Fit h ⌝ }
+    requires { ⌜ HotFit h ⌝ }
     requires { ⌜ now rows ≡ packedRows ⌝ }
     ensures { λ r. ⌜ r ≡ endedOf h ⌝ }
 {

@@ -4,7 +4,7 @@ ghost use Prim.Native.Nat.{_≤_, _<_};
 ghost use Rattle.layout.specs.Rows.{rowCount, level};
 ghost use Rattle.layout.specs.Packed.{packedRows, parentColumn};
 ghost use Rattle.rules.specs.Order.{isData};
-ghost use Rattle.rules.proofs.OpenLaws.{climb};
+ghost use Rattle.layout.specs.Climb.{climb};
 ghost use Rattle.line.specs.Machine.{startsOf, endsOf, hangsOf, standsOf, entryOf, usedOf, roomOf, misplacedOf};
 use layout::parents::parent_at;
 use layout::roles::block_at;

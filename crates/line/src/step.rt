@@ -6,7 +6,7 @@ ghost use Rattle.layout.specs.Packed.{packedRows, parentColumn, packedKinds, st
 ghost use Rattle.layout.specs.Kinds.{kind};
 ghost use Rattle.rules.specs.Bytes.{isEndByte};
 ghost use Rattle.field.specs.Streaming.{faultOf};
-ghost use Rattle.line.specs.Machine.{Fit, Tables, wordRow, codeBarOf, dueOf, saysOf, fieldBarOf, barOf, controlOf, pastOf, startOf, stepOf};
+ghost use Rattle.line.specs.Machine.{HotFit, Tables, wordRow, codeBarOf, dueOf, saysOf, fieldBarOf, barOf, controlOf, pastOf, startOf, stepOf};
 use crate::hot::CODE_KIND;
 use crate::hot::Hot;
 use crate::hot::ended;
@@ -121,7 +121,7 @@ fn code_bar(
     occurrences: &[u64; ROWS],
     r: usize,
 ) -> Step
-    requires { ⌜ Fit h ⌝ }
+    requires { ⌜ HotFit h ⌝ }
     requires { ⌜ (now rows ≡ packedRows) × (now parents ≡ parentColumn) × (now kinds ≡ packedKinds) × (now starts ≡ startColumn) × (r ≤ rowCount) ⌝ }
     ensures { λ t. ⌜ t ≡ codeBarOf h (now (stamps .entry)) (now (occurrences .entry)) r ⌝ }
 {
@@ -148,7 +148,7 @@ fn code_bar(
 
 // What field 2 of a closing, or of 9999, must state. Block 9 counts 9999 ahead.
 fn due(rows: &[u64; ENTRIES], h: Hot) -> u64
-    requires { ⌜ Fit h ⌝ }
+    requires { ⌜ HotFit h ⌝ }
     requires { ⌜ now rows ≡ packedRows ⌝ }
     ensures { λ n. ⌜ n ≡ dueOf h ⌝ }
 {
@@ -164,7 +164,7 @@ fn due(rows: &[u64; ENTRIES], h: Hot) -> u64
 
 // The rule that the field at hand breaks, or 0. Of a free field nothing is asked, and what is due is asked of counts alone.
 fn found(rows: &[u64; ENTRIES], h: Hot) -> u64
-    requires { ⌜ Fit h ⌝ }
+    requires { ⌜ HotFit h ⌝ }
     requires { ⌜ now rows ≡ packedRows ⌝ }
     ensures { λ n. ⌜ n ≡ faultOf (h .kind) (h .field) (dueOf h) ⌝ }
 {
@@ -200,7 +200,7 @@ fn field_bar(
     starts: &[usize; ENTRIES],
     n: u64,
 ) -> Step
-    requires { ⌜ Fit h ⌝ }
+    requires { ⌜ HotFit h ⌝ }
     requires { ⌜ (now rows ≡ packedRows) × (now kinds ≡ packedKinds) × (now starts ≡ startColumn) × (1 ≤ h .bars) ⌝ }
     ensures { λ t. ⌜ t ≡ fieldBarOf h n ⌝ }
 {
@@ -228,7 +228,7 @@ fn bar(
     stamps: &[u64; ROWS],
     occurrences: &[u64; ROWS],
 ) -> Step
-    requires { ⌜ Fit h ⌝ }
+    requires { ⌜ HotFit h ⌝ }
     requires { ⌜ Tables (now rows) (now parents) (now kinds) (now starts) (now slots) ⌝ }
     requires { ⌜ 1 ≤ h .bars ⌝ }
     ensures { λ t. ⌜ t ≡ barOf h (now (stamps .entry)) (now (occurrences .entry)) ⌝ }
@@ -269,7 +269,7 @@ fn control(h: Hot, b: u8) -> Step
 
 // A byte past the last field.
 fn past(h: Hot, rows: &[u64; ENTRIES], b: u8) -> Step
-    requires { ⌜ Fit h ⌝ }
+    requires { ⌜ HotFit h ⌝ }
     requires { ⌜ now rows ≡ packedRows ⌝ }
     ensures { λ t. ⌜ t ≡ pastOf h b ⌝ }
 {
@@ -291,7 +291,7 @@ fn past(h: Hot, rows: &[u64; ENTRIES], b: u8) -> Step
 
 // A line's first byte.
 fn first(h: Hot, b: u8) -> Step
-    requires { ⌜ Fit h ⌝ }
+    requires { ⌜ HotFit h ⌝ }
     ensures { λ t. ⌜ t ≡ startOf h b ⌝ }
 {
     if h.last == ROW_9999 {
@@ -315,7 +315,7 @@ pub fn judge(
     occurrences: &[u64; ROWS],
     b: u8,
 ) -> Step
-    requires { ⌜ Fit h ⌝ }
+    requires { ⌜ HotFit h ⌝ }
     requires { ⌜ Tables (now rows) (now parents) (now kinds) (now starts) (now slots) ⌝ }
     ensures { λ t. ⌜ t ≡ stepOf h (now (stamps .entry)) (now (occurrences .entry)) b ⌝ }
 {

@@ -15,7 +15,8 @@ use Rattle.layout.proofs.BlockLaws.{closing-level}
 use Rattle.layout.proofs.ParentLaws.{parent-level, parent-block}
 use Rattle.layout.proofs.RoleLaws.{none-closing, parent-closing, data-level, block-0000, closing-0000, closing-9999, level-9999}
 use Rattle.rules.proofs.StandLaws.{stand-first, stand-last, stand-opening, stand-closing, stand-data}
-use Rattle.rules.proofs.OpenLaws.{climb, climb-stop, climb-block, hangs-climb, ends-last}
+use Rattle.rules.proofs.OpenLaws.{climb-stop, climb-block, hangs-climb, ends-last}
+use Rattle.layout.specs.Climb.{climb}
 
 -- the four ways, with what each says of the line before
 pub data Follows (r : ℕ) (before : List ℕ) : Type 0 where

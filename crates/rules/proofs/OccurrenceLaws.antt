@@ -79,17 +79,17 @@ occurred-le k (r ∷ rows) =
     let h = occurred-le k rows in let u = under-le k rows in pick-le (eqb r k) _ _ _ (omega arith) (omega arith)
 
 -- the lines of row k under the parent line now: as many as at its last line, unless the parent's last line is later
-abbrev Told : ℕ → List ℕ → Type 0
-Told k rows = underParent k rows ≡ pick (ltb (stamped (parent k) rows) (stamped k rows)) (occurred k rows) 0
+abbrev ByStamps : ℕ → List ℕ → Type 0
+ByStamps k rows = underParent k rows ≡ pick (ltb (stamped (parent k) rows) (stamped k rows)) (occurred k rows) 0
 
-under-stamped : (k : ℕ) → (parent k ≡ k → ⊥) → (rows : List ℕ) → Told k rows
+under-stamped : (k : ℕ) → (parent k ≡ k → ⊥) → (rows : List ℕ) → ByStamps k rows
 under-stamped k other [] = unfold underParent stamped in refl
 under-stamped k other (r ∷ rows) = go (ℕ-discrete r (parent k)) (ℕ-discrete r k) (under-stamped k other rows)
   where
     p : ℕ
     p = parent k
 
-    go : Dec (r ≡ p) → Dec (r ≡ k) → Told k rows → Told k (r ∷ rows)
+    go : Dec (r ≡ p) → Dec (r ≡ k) → ByStamps k rows → ByStamps k (r ∷ rows)
     go (yes e) d ih =
         rw (under-new k r rows e, stamped-here p r rows e, stamped-past k r rows (λ z. other (sym e ∙ z)), le-ltb (suc (length rows)) (stamped k rows) (omega (arith, stamped-le k rows)))
     go (no o) (yes d) ih =

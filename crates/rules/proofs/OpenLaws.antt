@@ -9,6 +9,7 @@ use lib.Dec.{eqb, ltb}
 use borrow.Author.Tests.{eq-eqb, ne-eqb, lt-ltb, le-ltb, eqb-true}
 use Rattle.layout.specs.Pick.{pick}
 use Rattle.layout.specs.Rows.{none, rowCount, level, block, isOpening, isClosing, parent, opening}
+use Rattle.layout.specs.Climb.{climbBy, climb}
 use Rattle.rules.specs.Order.{last, shallower, openRows, among, isOpen, endsBlock, hangs, canStand}
 use Rattle.rules.proofs.Stood.{Stood}
 use Rattle.layout.proofs.BlockLaws.{opening-level, closing-level, opening-is, opening-block}
@@ -24,14 +25,6 @@ lineage (suc (suc n)) x = x ∷ lineage (suc n) (parent x)
 
 unfoldable pub ancestors : ℕ → List ℕ
 ancestors x = lineage (level x) x
-
--- from x by parents while the level is above n
-unfoldable pub climbBy : ℕ → ℕ → ℕ → ℕ
-climbBy zero n x = x
-climbBy (suc f) n x = pick (ltb n (level x)) (climbBy f n (parent x)) x
-
-unfoldable pub climb : ℕ → ℕ → ℕ
-climb n x = climbBy (level x) n x
 
 up-level : (x : ℕ) → 2 ≤ level x → suc (level (parent x)) ≡ level x
 up-level x h = parent-level x (level-row x (omega arith)) h
@@ -190,22 +183,22 @@ pub open-ancestors : (before : List ℕ) → Stood before → (p : ℕ) → 1 �
 open-ancestors before s p h = open-climb before s p h ∙ sym (among-climb p h (last before))
 
 -- from a line of a block that is no closing the climb to level 1 ends at an opening
-abbrev Opens : ℕ → Type 0
-Opens p = (p < rowCount) × (isOpening p ≡ true)
+abbrev AtOpening : ℕ → Type 0
+AtOpening p = (p < rowCount) × (isOpening p ≡ true)
 
-climb-opens : (x : ℕ) → 1 ≤ level x → isClosing x ≡ false → Opens (climb 1 x)
-climb-opens = by-level (λ x. 1 ≤ level x → isClosing x ≡ false → Opens (climb 1 x)) at-top below
+climb-opens : (x : ℕ) → 1 ≤ level x → isClosing x ≡ false → AtOpening (climb 1 x)
+climb-opens = by-level (λ x. 1 ≤ level x → isClosing x ≡ false → AtOpening (climb 1 x)) at-top below
   where
-    at-top : (x : ℕ) → level x ≤ 1 → 1 ≤ level x → isClosing x ≡ false → Opens (climb 1 x)
+    at-top : (x : ℕ) → level x ≤ 1 → 1 ≤ level x → isClosing x ≡ false → AtOpening (climb 1 x)
     at-top x t h c = rw (climb-stop 1 x t) (level-row x h, level-one x (level-row x h) (omega arith) c)
 
-    below : (x : ℕ) → 2 ≤ level x → (1 ≤ level (parent x) → isClosing (parent x) ≡ false → Opens (climb 1 (parent x))) → 1 ≤ level x → isClosing x ≡ false → Opens (climb 1 x)
+    below : (x : ℕ) → 2 ≤ level x → (1 ≤ level (parent x) → isClosing (parent x) ≡ false → AtOpening (climb 1 (parent x))) → 1 ≤ level x → isClosing x ≡ false → AtOpening (climb 1 x)
     below x d ih h c =
         rw (climb-on 1 x (omega arith) d) (ih (omega (arith, up-level x d)) (parent-closing x (level-row x h) d))
 
 module _ (r : ℕ) (row : r < rowCount) (closing : isClosing r ≡ true) where
   -- an opening is that of the block of r if it is in that block
-  opens-is : (p : ℕ) → Opens p → eqb p (opening r) ≡ eqb (block p) (block r)
+  opens-is : (p : ℕ) → AtOpening p → eqb p (opening r) ≡ eqb (block p) (block r)
   opens-is p o = go (ℕ-discrete (block p) (block r))
     where
       go : Dec (block p ≡ block r) → eqb p (opening r) ≡ eqb (block p) (block r)

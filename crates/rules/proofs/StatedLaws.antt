@@ -74,5 +74,5 @@ module _ (seen : List ℕ) (s : Sound seen) where
   pub counted : 3 ≤ bars seen → States (rowAtHand seen) (rows seen) (field 2 (lineAtHand seen))
   counted h = count-states (rowAtHand seen) (rows seen) (field 2 (lineAtHand seen)) (s .passing 2 (omega arith) h)
 
-  pub opening : 3 ≤ bars seen → Opens (rowAtHand seen) (field 2 (lineAtHand seen))
-  opening h = opening-is (rowAtHand seen) (rows seen) (field 2 (lineAtHand seen)) (s .passing 2 (omega arith) h)
+  pub opening-said : 3 ≤ bars seen → Opens (rowAtHand seen) (field 2 (lineAtHand seen))
+  opening-said h = opening-is (rowAtHand seen) (rows seen) (field 2 (lineAtHand seen)) (s .passing 2 (omega arith) h)

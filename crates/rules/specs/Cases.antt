@@ -9,13 +9,13 @@ pub record Case : Type 0 where
   pub file : List ℕ
   pub answer : Verdict
 
--- the bytes of texts, joined; a line of a file has its CR LF
-unfoldable pub joined : List String → List ℕ
-joined [] = []
-joined (t ∷ ts) = bytes t ++ joined ts
+-- the file of texts: their bytes, joined; a line has its CR LF
+unfoldable pub fileOf : List String → List ℕ
+fileOf [] = []
+fileOf (t ∷ ts) = bytes t ++ fileOf ts
 
 abbrev case : List String → Verdict → Case
-case file answer = record { file = joined file; answer = answer }
+case file answer = record { file = fileOf file; answer = answer }
 
 -- "Base" is the file of "The checking program": its first line, and the others
 abbrev first : String

@@ -49,14 +49,14 @@ isDate n =
     leb 1 day && leb day (daysOf year month) && leb 1900 year && leb year 2099
 
 -- "Fixed texts"
-unfoldable pub same : List ℕ → List ℕ → Bool
-same [] [] = true
-same [] (c ∷ cs) = false
-same (b ∷ bs) [] = false
-same (b ∷ bs) (c ∷ cs) = eqb b c && same bs cs
+unfoldable pub sameBytes : List ℕ → List ℕ → Bool
+sameBytes [] [] = true
+sameBytes [] (c ∷ cs) = false
+sameBytes (b ∷ bs) [] = false
+sameBytes (b ∷ bs) (c ∷ cs) = eqb b c && sameBytes bs cs
 
 unfoldable pub isText : String → List ℕ → Bool
-isText text w = same w (reverse (bytes text))
+isText text w = sameBytes w (reverse (bytes text))
 
 -- what the bar after a field asks of it
 pub record Form : Type 0 where

@@ -5,7 +5,7 @@ use mathlib.Core.List.{List, [], _∷_}
 use Prim.Native.Nat.{ℕ, zero, suc}
 use lib.Dec.{eqb, leb, ltb}
 use Rattle.layout.specs.Pick.{pick}
-use Rattle.layout.specs.Rows.{none, N, level, limit, block, isOpening, isClosing, parent, opening, row0000, row9990, row9999}
+use Rattle.layout.specs.Rows.{none, anyNumber, level, limit, block, isOpening, isClosing, parent, opening, row0000, row9990, row9999}
 
 -- the row of the line before; none where there is no line before
 unfoldable pub last : List ℕ → ℕ
@@ -66,7 +66,7 @@ underParent r (x ∷ before) =
 
 -- "1 means at most one, 990 at most 990, N any number": one more line of row r is not too many
 unfoldable pub hasRoom : ℕ → List ℕ → Bool
-hasRoom r before = eqb (limit r) N || ltb (underParent r before) (limit r)
+hasRoom r before = eqb (limit r) anyNumber || ltb (underParent r before) (limit r)
 
 -- a line of level 2 or deeper
 unfoldable pub isData : ℕ → Bool

@@ -20,7 +20,7 @@ use Rattle.rules.proofs.OccurrenceLaws.{stamps, occurrences, stamps-line, occur
 use Rattle.rules.proofs.CleanLaws.{Clean, clear-rules}
 use Rattle.rules.proofs.SoundLaws.{sound, lf-past}
 use Rattle.line.specs.Machine.{entryOf}
-use Rattle.sef.specs.Calls.{setOf, countsOf, stampsOf, occurrencesOf}
+use Rattle.sef.specs.Calls.{setOf, countsWith, stampsWith, occurrencesWith}
 use Rattle.line.proofs.HotOf.{hotOf}
 use Rattle.line.proofs.OrderSim.{used-is}
 
@@ -45,18 +45,18 @@ module _ (seen : List ℕ) (b : ℕ) (c : Clean seen) (e : fault seen b ≡ clea
       rw (t, lt-ltb (rowAtHand seen) rowCount row, ← line p row) (ap kept (sym (rows-lf seen) ∙ ap (λ x. rows (x ∷ seen)) (sym p))))
       (λ t. rw t (ap kept (sym (rows-on seen b t))))
 
-  pub counts-next : countsOf (hotOf seen) b (countsOfRows (rows seen)) ≡ countsOfRows (rows (b ∷ seen))
-  unfolding countsOf
+  pub counts-next : countsWith (hotOf seen) b (countsOfRows (rows seen)) ≡ countsOfRows (rows (b ∷ seen))
+  unfolding countsWith
   counts-next =
       array-next countsOfRows _ (λ p row. rw (entry-count (rows seen) (rowAtHand seen) row, add-one) (counts-line (rows seen) (rowAtHand seen) row))
 
-  pub stamps-next : stampsOf (hotOf seen) (hotOf (b ∷ seen) .lines) b (stamps (rows seen)) ≡ stamps (rows (b ∷ seen))
-  unfolding stampsOf
+  pub stamps-next : stampsWith (hotOf seen) (hotOf (b ∷ seen) .lines) b (stamps (rows seen)) ≡ stamps (rows (b ∷ seen))
+  unfolding stampsWith
   stamps-next =
       array-next stamps _ (λ p row. rw (p, lines-lf seen, ← rows-length seen) (stamps-line (rows seen) (rowAtHand seen) row))
 
-  pub occurrences-next : occurrencesOf (hotOf seen) b (stamps (rows seen)) (occurrences (rows seen)) ≡ occurrences (rows (b ∷ seen))
-  unfolding occurrencesOf
+  pub occurrences-next : occurrencesWith (hotOf seen) b (stamps (rows seen)) (occurrences (rows seen)) ≡ occurrences (rows (b ∷ seen))
+  unfolding occurrencesWith
   occurrences-next =
       let all = stood-rows (rows seen) (sound seen c .stood) in
       array-next occurrences _ (λ p row. rw (used-is (rows seen) (rowAtHand seen) row all, add-one) (occurrences-line (rows seen) (rowAtHand seen) row))

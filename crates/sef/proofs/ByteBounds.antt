@@ -6,7 +6,7 @@ use native.Mathlib.Omega.{arith}
 use lib.Dec.{eqb}
 use lib.ListN.{length}
 use Rattle.rules.specs.Bytes.{bar, LF, cut, cutBy, lineAtHand, word}
-use Rattle.field.specs.Streaming.{Fit, cap, fieldAfter}
+use Rattle.field.specs.Streaming.{FieldFit, cap, fieldAfter}
 use Rattle.sef.specs.Promises.{AllBytes}
 use Rattle.field.proofs.LengthLaws.{fit-after, length-is}
 
@@ -37,7 +37,7 @@ unfolding word lineAtHand
 word-bytes seen s = cut-bytes bar (cut LF seen .hand) (cut-bytes LF seen s)
 
 -- the value of a field
-word-fit : (kind : ℕ) (w : List ℕ) → OfBytes w → length w ≤ cap → Fit (fieldAfter kind w)
+word-fit : (kind : ℕ) (w : List ℕ) → OfBytes w → length w ≤ cap → FieldFit (fieldAfter kind w)
 unfolding fieldAfter
 word-fit kind [] s l = record { length = omega arith; value = omega arith }
 word-fit kind (b ∷ w) s l =

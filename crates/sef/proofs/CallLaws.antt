@@ -11,7 +11,7 @@ use Rattle.layout.specs.Pick.{pick}
 use Rattle.layout.specs.Rows.{rowCount}
 use Rattle.rules.specs.Verdict as Rules
 use Rattle.rules.proofs.TestLaws.{both}
-use Rattle.sef.specs.Calls.{runOf, rangedOf, checkOf, keptOf, unchanged, verdictOf, closedOf, finishOf, reportOf, reportedOf}
+use Rattle.sef.specs.Calls.{runOf, rangedOf, checkOf, keptOf, unchanged, finalAnswerOf, closedOf, finishOf, reportOf, reportedOf}
 use Rattle.sef.specs.Promises.{said, told, AllBytes, more, done, Checks, Finishes, Reports}
 use Rattle.sef.specs.declared.state.State.{State}
 use Rattle.sef.specs.declared.state.Checked.{Checked}
@@ -92,7 +92,7 @@ module _ (s : State) where
         late = λ file f. (refl, refl);
       }
 
-  pub finishes-now : (a : Answer) (t : State) → rangedOf s ≡ true → s .finished ≡ false → a ≡ verdictOf s → t ≡ closedOf s
+  pub finishes-now : (a : Answer) (t : State) → rangedOf s ≡ true → s .finished ≡ false → a ≡ finalAnswerOf s → t ≡ closedOf s
       → Finishes s (record { answer = a; state = t })
   finishes-now a t e d p q =
       record {

@@ -9,7 +9,7 @@ use Rattle.layout.specs.Pick.{pick}
 use Rattle.layout.specs.Rows.{rowCount, row9999}
 use Rattle.rules.proofs.TestLaws.{both}
 use Rattle.line.specs.Machine.{stepOf}
-use Rattle.sef.specs.Calls.{countsOf, stampsOf, occurrencesOf, openOf, stoppedOf, onStep, runOf, rangedOf, keptOf, checkOf, verdictOf, finishOf, reportOf}
+use Rattle.sef.specs.Calls.{countsWith, stampsWith, occurrencesWith, openOf, stoppedOf, onStep, runOf, rangedOf, keptOf, checkOf, finalAnswerOf, finishOf, reportOf}
 use Rattle.sef.specs.Promises.{Checks, Finishes, Reports}
 use Rattle.line.specs.declared.hot.Hot.{Hot}
 use Rattle.line.specs.declared.step.Step.{Step}
@@ -45,11 +45,11 @@ run-sane : (piece : List ℕ) (h : Hot) (cs ss os : List ℕ) → Sane (runOf h 
 unfolding runOf
 run-sane [] h cs ss os = unfold openOf in refl
 run-sane (b ∷ piece) h cs ss os =
-    go (stepOf h ss os b) (λ n. run-sane piece n (countsOf h b cs) (stampsOf h (n .lines) b ss) (occurrencesOf h b ss os))
+    go (stepOf h ss os b) (λ n. run-sane piece n (countsWith h b cs) (stampsWith h (n .lines) b ss) (occurrencesWith h b ss os))
   where
     go : (t : Step)
-        → ((n : Hot) → Sane (runOf n (countsOf h b cs) (stampsOf h (n .lines) b ss) (occurrencesOf h b ss os) piece .answer))
-        → Sane (onStep t (λ n. runOf n (countsOf h b cs) (stampsOf h (n .lines) b ss) (occurrencesOf h b ss os) piece) (stoppedOf h cs ss os) .answer)
+        → ((n : Hot) → Sane (runOf n (countsWith h b cs) (stampsWith h (n .lines) b ss) (occurrencesWith h b ss os) piece .answer))
+        → Sane (onStep t (λ n. runOf n (countsWith h b cs) (stampsWith h (n .lines) b ss) (occurrencesWith h b ss os) piece) (stoppedOf h cs ss os) .answer)
     go (Next n) ih = ih n
     go (Broken r f) ih = unfold stoppedOf in refl
 
@@ -58,8 +58,8 @@ module _ (s : State) where
   unfolding keptOf
   kept-sane = refl
 
-  verdict-sane : Sane (verdictOf s)
-  unfolding verdictOf
+  verdict-sane : Sane (finalAnswerOf s)
+  unfolding finalAnswerOf
   verdict-sane = choice Sane (eqb (s .rule) 0) _ _ (choice Sane (eqb (s .hot .last) row9999) _ _ refl refl) kept-sane
 
   module _ (ranged : rangedOf s ≡ true) where

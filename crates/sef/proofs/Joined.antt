@@ -11,7 +11,7 @@ use Rattle.rules.specs.Bytes.{rows}
 use Rattle.rules.specs.Verdict as Rules
 use Rattle.rules.specs.Verdict.{counts, standing}
 use Rattle.rules.proofs.CountLaws.{counts-length}
-use Rattle.sef.specs.Calls.{rangedOf, checkOf, unchanged, verdictOf, closedOf, finishOf}
+use Rattle.sef.specs.Calls.{rangedOf, checkOf, unchanged, finalAnswerOf, closedOf, finishOf}
 use Rattle.sef.specs.Promises.{said, Reached, start, more, Finished, done}
 use Rattle.sef.specs.declared.state.State.{State}
 use Rattle.sef.specs.declared.state.Answer.the-variants.{Late, Damaged}
@@ -65,10 +65,10 @@ module _ (s : State) (ranged : rangedOf s ≡ true) where
   unfolding finishOf
   finish-late d = at-second (rangedOf s) (s .finished) (unchanged Late s) _ (unchanged Damaged s) ranged d
 
-  pub finish-now : s .finished ≡ false → finishOf s ≡ record { answer = verdictOf s; state = closedOf s }
+  pub finish-now : s .finished ≡ false → finishOf s ≡ record { answer = finalAnswerOf s; state = closedOf s }
   unfolding finishOf
   finish-now d =
-      at-third (rangedOf s) (s .finished) (unchanged Late s) (record { answer = verdictOf s; state = closedOf s }) (unchanged Damaged s) ranged d
+      at-third (rangedOf s) (s .finished) (unchanged Late s) (record { answer = finalAnswerOf s; state = closedOf s }) (unchanged Damaged s) ranged d
 
 -- States before finish.
 module _ (file : List ℕ) (s : State) (r : Reached file s) where

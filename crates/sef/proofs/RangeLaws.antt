@@ -15,7 +15,7 @@ use Rattle.layout.specs.Rows.{none, rowCount, parent, isClosing, rowOfCode}
 use Rattle.rules.specs.Rules.{byteLimit}
 use Rattle.rules.proofs.TestLaws.{and-left, and-right, pick-le}
 use Rattle.field.specs.Streaming.{cap}
-use Rattle.line.specs.Machine.{Fit, grownOf, movedOf, endedOf, sinceOf, entryOf, usedOf, wordRow, codeBarOf, fieldBarOf, barOf, controlOf, inFieldOf, pastOf, startOf, stepOf}
+use Rattle.line.specs.Machine.{HotFit, grownOf, movedOf, endedOf, sinceOf, entryOf, usedOf, wordRow, codeBarOf, fieldBarOf, barOf, controlOf, inFieldOf, pastOf, startOf, stepOf}
 use Rattle.sef.specs.Calls.{setOf, withinTo, lineRanged, hotRanged, rangedOf, Below, Held}
 use Rattle.line.specs.declared.hot.Hot.{Hot}
 use Rattle.line.specs.declared.step.Step.{Step}
@@ -80,7 +80,7 @@ line-fit h e =
       value = leb-true _ _ (and-right (a && b && c && d && l && w) v e);
     }
 
-pub fit-of : (h : Hot) → hotRanged h ≡ true → Fit h
+pub fit-of : (h : Hot) → hotRanged h ≡ true → HotFit h
 unfolding hotRanged
 fit-of h e =
     let a = leb (h .bytes) 4294967296 in
@@ -127,14 +127,14 @@ held-of s e =
 
 -- A step that goes on.
 data Goes (h : Hot) : Step → Type 0 where
-  goes : {n : Hot} → Fit n → n .bytes ≡ h .bytes + 1 → Goes h (Next n)
+  goes : {n : Hot} → HotFit n → n .bytes ≡ h .bytes + 1 → Goes h (Next n)
   stops : {rule field : ℕ} → Goes h (Broken rule field)
 
 pick-goes : (h : Hot) (t : Bool) (a b : Step) → Goes h a → Goes h b → Goes h (pick t a b)
 pick-goes h true a b p q = p
 pick-goes h false a b p q = q
 
-module _ (h : Hot) (f : Fit h) (small : h .bytes < byteLimit) where
+module _ (h : Hot) (f : HotFit h) (small : h .bytes < byteLimit) where
   moved-goes : (r fields kind says : ℕ) → r ≤ rowCount → Goes h (Next (movedOf h r fields kind says))
   moved-goes r fields kind says le =
       goes {n = movedOf h r fields kind says}
@@ -217,7 +217,7 @@ module _ (h : Hot) (f : Fit h) (small : h .bytes < byteLimit) where
       → Goes h (pick (eqb (h .bars) 0) (startOf h b) (pick (ltb (h .fields) (h .bars)) (pastOf h b) (inFieldOf h ss os b)))
   line-goes ss os b byte = search (pick-goes, start-goes, past-goes, in-goes) depth 8
 
-step-goes : (h : Hot) → Fit h → (ss os : List ℕ) (b : ℕ) → b < 256 → Goes h (stepOf h ss os b)
+step-goes : (h : Hot) → HotFit h → (ss os : List ℕ) (b : ℕ) → b < 256 → Goes h (stepOf h ss os b)
 unfolding stepOf
 step-goes h f ss os b byte = go (leb byteLimit (h .bytes)) refl
   where
@@ -226,11 +226,11 @@ step-goes h f ss os b byte = go (leb byteLimit (h .bytes)) refl
     go true e = stops
     go false e = line-goes h f (leb-false _ _ e) ss os b byte
 
-gone : (h n : Hot) (s : Step) → Goes h s → s ≡ Next n → Fit n × (n .bytes ≡ h .bytes + 1)
-gone h n s (goes {n = k} f e) p = let q : k ≡ n = cc in subst (λ m. Fit m × (m .bytes ≡ h .bytes + 1)) q (f, e)
+gone : (h n : Hot) (s : Step) → Goes h s → s ≡ Next n → HotFit n × (n .bytes ≡ h .bytes + 1)
+gone h n s (goes {n = k} f e) p = let q : k ≡ n = cc in subst (λ m. HotFit m × (m .bytes ≡ h .bytes + 1)) q (f, e)
 gone h n s stops p = absurd (let z : _≡_ {A = ℕ} 0 1 = cc in omega arith)
 
-pub step-fit : (h n : Hot) → Fit h → (ss os : List ℕ) (b : ℕ) → b < 256 → stepOf h ss os b ≡ Next n → Fit n × (n .bytes ≡ h .bytes + 1)
+pub step-fit : (h n : Hot) → HotFit h → (ss os : List ℕ) (b : ℕ) → b < 256 → stepOf h ss os b ≡ Next n → HotFit n × (n .bytes ≡ h .bytes + 1)
 step-fit h n f ss os b byte e = gone h n _ (step-goes h f ss os b byte) e
 
 -- The arrays.

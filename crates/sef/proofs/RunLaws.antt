@@ -12,7 +12,7 @@ use borrow.Author.Tests.{eq-eqb, ne-eqb}
 use Rattle.layout.specs.Pick.{pick}
 use Rattle.rules.specs.Bytes.{LF}
 use Rattle.line.specs.Machine.{entryOf, usedOf, stepOf}
-use Rattle.sef.specs.Calls.{setOf, countsOf, stampsOf, occurrencesOf, openOf, stoppedOf, onStep, runOf, Below, Held}
+use Rattle.sef.specs.Calls.{setOf, countsWith, stampsWith, occurrencesWith, openOf, stoppedOf, onStep, runOf, Below, Held}
 use Rattle.line.specs.declared.hot.Hot.{Hot}
 use Rattle.line.specs.declared.step.Step.{Step}
 use Rattle.line.specs.declared.step.Step.the-variants.{Next, Broken}
@@ -20,14 +20,14 @@ use Rattle.sef.proofs.RangeLaws.{step-fit, entry-le, used-le, below-set
 
 -- the loop's invariant: the run from the start is the run from here over what is left of the piece
 pub record Going (p : List ℕ) (h₀ : Hot) (cs₀ ss₀ os₀ : List ℕ) (h : Hot) (cs ss os : List ℕ) (i : ℕ) : Type 0 where
-  pub same : runOf h₀ cs₀ ss₀ os₀ p ≡ runOf h cs ss os (drop i p)
+  pub runs : runOf h₀ cs₀ ss₀ os₀ p ≡ runOf h cs ss os (drop i p)
   pub within : i ≤ length p
   pub held : Held h cs ss os
 
 module _ (h : Hot) (cs ss os p : List ℕ) (i : ℕ) where
   pub run-next : i < length p → (n : Hot) → stepOf h ss os (getD p i 0) ≡ Next n
       → runOf h cs ss os (drop i p)
-      ≡ runOf n (countsOf h (getD p i 0) cs) (stampsOf h (n .lines) (getD p i 0) ss) (occurrencesOf h (getD p i 0) ss os) (drop (i + 1) p)
+      ≡ runOf n (countsWith h (getD p i 0) cs) (stampsWith h (n .lines) (getD p i 0) ss) (occurrencesWith h (getD p i 0) ss os) (drop (i + 1) p)
   unfolding runOf
   run-next l n e = rw (drop-cons p i 0 l, e, add-one)
 
@@ -55,27 +55,27 @@ module _ (h n : Hot) (cs ss os : List ℕ) (b : ℕ) (d : Held h cs ss os) where
   abbrev m : ℕ
   m = h .bytes + 1
 
-  counts-held : Below m (countsOf h b cs)
-  unfolding countsOf
+  counts-held : Below m (countsWith h b cs)
+  unfolding countsWith
   counts-held =
       let more = below-more _ cs (d .counts) in
       below-pick m (eqb b LF) _ cs
       (below-set m (h .row) _ cs more (omega (arith, entry-le _ (h .row) cs (d .counts)))) more
 
-  stamps-held : n .lines ≤ m → Below m (stampsOf h (n .lines) b ss)
-  unfolding stampsOf
+  stamps-held : n .lines ≤ m → Below m (stampsWith h (n .lines) b ss)
+  unfolding stampsWith
   stamps-held l =
       let more = below-more _ ss (d .stamps) in
       below-pick m (eqb b LF) _ ss (below-set m (h .row) (n .lines) ss more l) more
 
-  occurrences-held : Below m (occurrencesOf h b ss os)
-  unfolding occurrencesOf
+  occurrences-held : Below m (occurrencesWith h b ss os)
+  unfolding occurrencesWith
   occurrences-held =
       let more = below-more _ os (d .occurrences) in
       below-pick m (eqb b LF) _ os
       (below-set m (h .row) _ os more (omega (arith, used-le _ (h .row) ss os (d .occurrences)))) more
 
-  pub held-next : b < 256 → stepOf h ss os b ≡ Next n → Held n (countsOf h b cs) (stampsOf h (n .lines) b ss) (occurrencesOf h b ss os)
+  pub held-next : b < 256 → stepOf h ss os b ≡ Next n → Held n (countsWith h b cs) (stampsWith h (n .lines) b ss) (occurrencesWith h b ss os)
   held-next byte e =
       let s = step-fit h n (d .fit) ss os b byte e in
       record {
@@ -87,12 +87,12 @@ module _ (h n : Hot) (cs ss os : List ℕ) (b : ℕ) (d : Held h cs ss os) where
 
 pub going-next : {p : List ℕ} {h₀ : Hot} {cs₀ ss₀ os₀ : List ℕ} {h : Hot} {cs ss os : List ℕ} {i : ℕ}
     → Going p h₀ cs₀ ss₀ os₀ h cs ss os i → i < length p → getD p i 0 < 256 → (n : Hot) → stepOf h ss os (getD p i 0) ≡ Next n
-    → (cs′ ss′ os′ : List ℕ) → cs′ ≡ countsOf h (getD p i 0) cs → ss′ ≡ stampsOf h (n .lines) (getD p i 0) ss
-    → os′ ≡ occurrencesOf h (getD p i 0) ss os
+    → (cs′ ss′ os′ : List ℕ) → cs′ ≡ countsWith h (getD p i 0) cs → ss′ ≡ stampsWith h (n .lines) (getD p i 0) ss
+    → os′ ≡ occurrencesWith h (getD p i 0) ss os
     → Going p h₀ cs₀ ss₀ os₀ n cs′ ss′ os′ (i + 1)
 going-next {p} {h₀} {cs₀} {ss₀} {os₀} {h} {cs} {ss} {os} {i} g l byte n e cs′ ss′ os′ ec es eo =
     record {
-      same = g .same ∙ run-next h cs ss os p i l n e ∙ rw (ec, es, eo);
+      runs = g .runs ∙ run-next h cs ss os p i l n e ∙ rw (ec, es, eo);
       within = omega arith;
       held = rw (ec, es, eo) (held-next h n cs ss os (getD p i 0) (g .held) byte e);
     }

@@ -21,7 +21,7 @@ use Rattle.rules.proofs.FaultLaws.{finished-last}
 use Rattle.rules.proofs.OccurrenceLaws.{stamps, occurrences}
 use Rattle.rules.proofs.CleanLaws.{Clean, Refused, clean-next, verdict-broken, verdict-stays, standing-refused, standing-clean, clean-or-refused, clean-short, finish-clean, finish-refused}
 use Rattle.rules.proofs.SoundLaws.{sound}
-use Rattle.sef.specs.Calls.{openOf, stoppedOf, runOf, rangedOf, checkOf, keptOf, verdictOf, finishOf}
+use Rattle.sef.specs.Calls.{openOf, stoppedOf, runOf, rangedOf, checkOf, keptOf, finalAnswerOf, finishOf}
 use Rattle.sef.specs.Promises.{said}
 use Rattle.sef.specs.declared.state.Checked.{Checked}
 use Rattle.line.proofs.HotOf.{hotOf}
@@ -166,7 +166,7 @@ module _ (seen : List ℕ) (bytes : OfBytes seen) where
   unfolding finishOf
   finish-open c =
       rw (open-ranged c)
-      (unfold openOf verdictOf in
+      (unfold openOf finalAnswerOf in
       rw (finish-clean seen c, finished-last seen)
       (split (eqb (last (rows seen)) row9999) (λ t. unfold said in rw t) (λ t. unfold said in rw (t, add-one))))
 
@@ -175,7 +175,7 @@ module _ (seen : List ℕ) (bytes : OfBytes seen) where
   unfolding finishOf
   finish-stopped r =
       rw (stopped-ranged r)
-      (unfold stoppedOf verdictOf keptOf said in
+      (unfold stoppedOf finalAnswerOf keptOf said in
       rw (ne-eqb (r .number) 0 (λ z. omega (arith, refused-number seen r .0)), finish-refused seen _ _ _ _ _ (r .says), add-one (length (lines (r .before))), add-one (length (r .before))))
 
   pub finish-after : said (finishOf (checkedAfter seen .state) .answer) ≡ finishVerdict seen

@@ -7,9 +7,8 @@ use lib.ListN.{length, getD, set, drop, replicate}
 use Rattle.layout.specs.Pick.{pick}
 use Rattle.layout.specs.Rows.{rowCount, none, row9999}
 use Rattle.rules.specs.Bytes.{LF}
-use Rattle.field.specs.Streaming.{cap}
-use Rattle.field.specs.Streaming as Streaming
-use Rattle.line.specs.Machine.{Fit, entryOf, usedOf, stepOf}
+use Rattle.field.specs.Streaming.{cap, emptyField}
+use Rattle.line.specs.Machine.{HotFit, entryOf, usedOf, stepOf}
 use Rattle.line.specs.declared.hot.Hot.{Hot}
 use Rattle.line.specs.declared.step.Step.{Step}
 use Rattle.line.specs.declared.step.Step.the-variants.{Next, Broken}
@@ -24,14 +23,14 @@ use Rattle.sef.specs.declared.calls.Reported.the-variants.{Written, NoRo
 unfoldable pub setOf : List ℕ → ℕ → ℕ → List ℕ
 setOf xs r v = pick (ltb r rowCount) (set xs r v) xs
 
-unfoldable pub countsOf : Hot → ℕ → List ℕ → List ℕ
-countsOf h b counts = pick (eqb b LF) (setOf counts (h .row) (entryOf counts (h .row) + 1)) counts
+unfoldable pub countsWith : Hot → ℕ → List ℕ → List ℕ
+countsWith h b counts = pick (eqb b LF) (setOf counts (h .row) (entryOf counts (h .row) + 1)) counts
 
-unfoldable pub stampsOf : Hot → ℕ → ℕ → List ℕ → List ℕ
-stampsOf h n b stamps = pick (eqb b LF) (setOf stamps (h .row) n) stamps
+unfoldable pub stampsWith : Hot → ℕ → ℕ → List ℕ → List ℕ
+stampsWith h n b stamps = pick (eqb b LF) (setOf stamps (h .row) n) stamps
 
-unfoldable pub occurrencesOf : Hot → ℕ → List ℕ → List ℕ → List ℕ
-occurrencesOf h b stamps occurrences =
+unfoldable pub occurrencesWith : Hot → ℕ → List ℕ → List ℕ → List ℕ
+occurrencesWith h b stamps occurrences =
     pick (eqb b LF) (setOf occurrences (h .row) (usedOf stamps occurrences (h .row) + 1)) occurrences
 
 -- A piece, byte by byte.
@@ -82,7 +81,7 @@ unfoldable pub runOf : Hot → List ℕ → List ℕ → List ℕ → List ℕ �
 runOf h counts stamps occurrences [] = openOf h counts stamps occurrences
 runOf h counts stamps occurrences (b ∷ rest) =
     onStep (stepOf h stamps occurrences b)
-    (λ n. runOf n (countsOf h b counts) (stampsOf h (n .lines) b stamps) (occurrencesOf h b stamps occurrences) rest)
+    (λ n. runOf n (countsWith h b counts) (stampsWith h (n .lines) b stamps) (occurrencesWith h b stamps occurrences) rest)
     (stoppedOf h counts stamps occurrences)
 
 -- Every stored number within its range (docs/STATE.md).
@@ -111,7 +110,7 @@ abbrev pub Below : ℕ → List ℕ → Type 0
 Below m xs = (k : ℕ) → k < rowCount → getD xs k 0 ≤ m
 
 pub record Held (h : Hot) (cs ss os : List ℕ) : Type 0 where
-  pub fit : Fit h
+  pub fit : HotFit h
   pub counts : Below (h .bytes) cs
   pub stamps : Below (h .bytes) ss
   pub occurrences : Below (h .bytes) os
@@ -130,7 +129,7 @@ fresh =
       row = none;
       fields = 1;
       kind = 1;
-      field = Streaming.fresh;
+      field = emptyField;
     })
     0
     0
@@ -153,8 +152,8 @@ checkOf s piece =
     (pick (eqb (s .rule) 0) (runOf (s .hot) (s .counts) (s .stamps) (s .occurrences) piece) (unchanged (keptOf s) s)))
     (unchanged Damaged s)
 
-unfoldable pub verdictOf : State → Answer
-verdictOf s =
+unfoldable pub finalAnswerOf : State → Answer
+finalAnswerOf s =
     pick (eqb (s .rule) 0)
     (pick (eqb (s .hot .last) row9999) (Accepted (s .hot .lines) (s .hot .bytes))
     (Refused 14 (s .hot .lines + 1) 0 (s .hot .lines) (s .hot .bytes)))
@@ -166,7 +165,7 @@ closedOf s = stateOf (s .hot) (s .rule) (s .field) true (s .counts) (s .stamps) 
 unfoldable pub finishOf : State → Checked
 finishOf s =
     pick (rangedOf s)
-    (pick (s .finished) (unchanged Late s) (record { answer = verdictOf s; state = closedOf s }))
+    (pick (s .finished) (unchanged Late s) (record { answer = finalAnswerOf s; state = closedOf s }))
     (unchanged Damaged s)
 
 -- 19 is looked at first, then 18; a refused report writes nothing

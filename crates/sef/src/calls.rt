@@ -1,8 +1,8 @@
 // The four public calls.
 ghost use mathlib.Core.Path.{_≡_};
-ghost use Rattle.sef.specs.Calls.{fresh, verdictOf};
+ghost use Rattle.sef.specs.Calls.{fresh, finalAnswerOf};
 ghost use Rattle.sef.specs.Promises.{Checks, Finishes, Reports};
-ghost use Rattle.line.specs.Machine.{Fit};
+ghost use Rattle.line.specs.Machine.{HotFit};
 use crate::fill::fill;
 use crate::ranges::ranged;
 use crate::run::run;
@@ -83,8 +83,8 @@ pub fn check(s: State, piece: &[u8]) -> Checked
 
 // The final answer of a file whose pieces have all come.
 fn verdict(s: State) -> Answer
-    requires { ⌜ Fit (s .hot) ⌝ }
-    ensures { λ a. ⌜ a ≡ verdictOf s ⌝ }
+    requires { ⌜ HotFit (s .hot) ⌝ }
+    ensures { λ a. ⌜ a ≡ finalAnswerOf s ⌝ }
 {
     if s.rule != 0 {
         return kept(s);

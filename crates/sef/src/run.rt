@@ -2,7 +2,7 @@
 ghost use mathlib.Core.Path.{_≡_};
 ghost use Rattle.layout.specs.Packed.{parentColumn};
 ghost use Rattle.line.specs.Machine.{Tables};
-ghost use Rattle.sef.specs.Calls.{Held, setOf, countsOf, stampsOf, occurrencesOf, runOf};
+ghost use Rattle.sef.specs.Calls.{Held, setOf, countsWith, stampsWith, occurrencesWith, runOf};
 use crate::state::Checked;
 use crate::state::opened;
 use crate::state::refused;
@@ -38,9 +38,9 @@ fn noted(
 )
     requires { ⌜ now parents ≡ parentColumn ⌝ }
     requires { ⌜ Held h (now counts) (now stamps) (now occurrences) ⌝ }
-    ensures { λ _. ⌜ now (counts .exit) ≡ countsOf h b (now (counts .entry)) ⌝ }
-    ensures { λ _. ⌜ now (stamps .exit) ≡ stampsOf h n b (now (stamps .entry)) ⌝ }
-    ensures { λ _. ⌜ now (occurrences .exit) ≡ occurrencesOf h b (now (stamps .entry)) (now (occurrences .entry)) ⌝ }
+    ensures { λ _. ⌜ now (counts .exit) ≡ countsWith h b (now (counts .entry)) ⌝ }
+    ensures { λ _. ⌜ now (stamps .exit) ≡ stampsWith h n b (now (stamps .entry)) ⌝ }
+    ensures { λ _. ⌜ now (occurrences .exit) ≡ occurrencesWith h b (now (stamps .entry)) (now (occurrences .entry)) ⌝ }
 {
     if b == LF {
         let r = h.row;

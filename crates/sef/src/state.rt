@@ -1,6 +1,6 @@
 // What is kept between pieces, and the answers.
 ghost use mathlib.Core.Path.{_≡_};
-ghost use Rattle.line.specs.Machine.{Fit};
+ghost use Rattle.line.specs.Machine.{HotFit};
 ghost use Rattle.sef.specs.Calls.{openOf, stoppedOf, onStep, keptOf};
 use layout::rows::ROWS;
 use line::hot::Hot;
@@ -63,7 +63,7 @@ fn stopped(
     rule: u64,
     field: u64,
 ) -> Checked
-    requires { ⌜ Fit h ⌝ }
+    requires { ⌜ HotFit h ⌝ }
     ensures { λ r. ⌜ r ≡ stoppedOf h counts stamps occurrences rule field ⌝ }
 {
     let mut hot = h;
@@ -90,7 +90,7 @@ pub fn refused(
     stamps: [u64; ROWS],
     occurrences: [u64; ROWS],
 ) -> Checked
-    requires { ⌜ Fit h ⌝ }
+    requires { ⌜ HotFit h ⌝ }
     ensures { λ r. ⌜ r ≡ onStep t (λ n. stoppedOf h counts stamps occurrences 0 0) (stoppedOf h counts stamps occurrences) ⌝ }
 {
     match t {
@@ -101,7 +101,7 @@ pub fn refused(
 
 // What was refused stays refused.
 pub fn kept(s: State) -> Answer
-    requires { ⌜ Fit (s .hot) ⌝ }
+    requires { ⌜ HotFit (s .hot) ⌝ }
     ensures { λ a. ⌜ a ≡ keptOf s ⌝ }
 {
     let h = s.hot;

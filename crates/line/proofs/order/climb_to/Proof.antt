@@ -4,7 +4,8 @@ use native.Mathlib.Omega.{arith}
 use Rattle.layout.specs.Rows.{rowCount, level}
 use Rattle.layout.proofs.ParentLaws.{parent-level, parent-le}
 use Rattle.layout.proofs.RoleLaws.{level-row}
-use Rattle.rules.proofs.OpenLaws.{climb, climb-stop, climb-on}
+use Rattle.rules.proofs.OpenLaws.{climb-stop, climb-on}
+use Rattle.layout.specs.Climb.{climb}
 use Rattle.line.proofs.order.climb_to.Statement.{statement}
 use Rattle.line.proofs.order.climb_to.Tie as tie
 

@@ -4,7 +4,7 @@ use lib.ListN.{getD}
 use mathlib.Core.List.{List}
 use mir.Syntax.{w8}
 use mir.Val.{Fits}
-use Rattle.field.proofs.Picks.{told-no, told-yes}
+use Rattle.field.proofs.Picks.{thus-no, thus-yes}
 use Rattle.sef.proofs.RangeLaws.{held-of}
 use Rattle.sef.proofs.CallLaws.{checks-damaged, checks-late, checks-kept, checks-run}
 use Rattle.sef.proofs.calls.check.Statement.{statement}
@@ -18,22 +18,22 @@ ranged-requires : tie.Need-ranged-requires
 ranged-requires c κs = search needs
 
 returns : tie.Need-returns
-returns c = search (checks-damaged, told-no)
+returns c = search (checks-damaged, thus-no)
 
 returns-2 : tie.Need-returns-2
-returns-2 c = search (checks-late, told-yes)
+returns-2 c = search (checks-late, thus-yes)
 
 kept-requires : tie.Need-kept-requires
-kept-requires c κs = held-of (c .before .before .before .before .before .before .args .s) (search told-yes) .fit
+kept-requires c κs = held-of (c .before .before .before .before .before .before .args .s) (search thus-yes) .fit
 
 returns-3 : tie.Need-returns-3
-returns-3 c = search (checks-kept, told-yes, byte)
+returns-3 c = search (checks-kept, thus-yes, byte)
 
 run-requires : tie.Need-run-requires
-run-requires c κs = search (held-of, told-yes)
+run-requires c κs = search (held-of, thus-yes)
 
 returns-4 : tie.Need-returns-4
-returns-4 c = search (checks-run, told-yes, byte)
+returns-4 c = search (checks-run, thus-yes, byte)
 
 pub check-spec : {M : Type 1} → statement M
 check-spec =

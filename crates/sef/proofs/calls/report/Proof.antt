@@ -1,5 +1,5 @@
 use borrow.Author.Needs.{needs}
-use Rattle.field.proofs.Picks.{told-no, told-yes}
+use Rattle.field.proofs.Picks.{thus-no, thus-yes}
 use Rattle.sef.proofs.CallLaws.{reports-unfit, reports-no-room, reports-written}
 use Rattle.sef.proofs.calls.report.Statement.{statement}
 use Rattle.sef.proofs.calls.report.Tie as tie
@@ -8,10 +8,10 @@ ranged-requires : tie.Need-ranged-requires
 ranged-requires c κs = search needs
 
 returns : tie.Need-returns
-returns c = search (reports-unfit, told-no)
+returns c = search (reports-unfit, thus-no)
 
 returns-2 : tie.Need-returns-2
-returns-2 c = search (reports-no-room, told-yes)
+returns-2 c = search (reports-no-room, thus-yes)
 
 fill-requires : tie.Need-fill-requires
 fill-requires c κs = search needs
@@ -20,7 +20,7 @@ same-length : tie.Need-same-length
 same-length c = search needs
 
 returns-3 : tie.Need-returns-3
-returns-3 c = search (reports-written, told-yes)
+returns-3 c = search (reports-written, thus-yes)
 
 pub report-spec : {M : Type 1} → statement M
 report-spec =

@@ -39,7 +39,7 @@ returns c =
     let turn = judged .before .before .before .before in
     let at = turn .before .loop in
     let stops = run-stop _ _ _ _ _ (at .i) (turn .loop-test .taken) in
-    c .refused .ensures ∙ sym (at .inv .same ∙ stops _ _ _ (judged .judge .ensures) (c .before .enum-told .given .1))
+    c .refused .ensures ∙ sym (at .inv .runs ∙ stops _ _ _ (judged .judge .ensures) (c .before .enum-told .given .1))
 
 noted-requires : tie.Need-noted-requires Inv-loop μ-loop
 noted-requires c κs = search needs
@@ -69,7 +69,7 @@ opened-requires c κs = search needs
 returns-2 : tie.Need-returns-2 Inv-loop μ-loop
 returns-2 c =
     let at = c .before .before .loop in
-    c .opened .ensures ∙ sym (at .inv .same ∙ run-end _ _ _ _ _ (at .i) (c .before .loop-test .left) (at .inv .within))
+    c .opened .ensures ∙ sym (at .inv .runs ∙ run-end _ _ _ _ _ (at .i) (c .before .loop-test .left) (at .inv .within))
 
 pub judge-all-spec : {M : Type 1} → statement M
 judge-all-spec =

@@ -2,7 +2,7 @@ use borrow.Author.Needs.{needs}
 use borrow.Author.Tests.{eq-eqb, ne-eqb}
 use mathlib.Core.Path.{refl}
 use native.Mathlib.Omega.{arith}
-use Rattle.sef.specs.Calls.{countsOf, stampsOf, occurrencesOf}
+use Rattle.sef.specs.Calls.{countsWith, stampsWith, occurrencesWith}
 use Rattle.sef.proofs.RangeLaws.{entry-le, used-le}
 use Rattle.sef.proofs.run.noted.Statement.{statement}
 use Rattle.sef.proofs.run.noted.Tie as tie
@@ -33,7 +33,7 @@ put-requires-3 : tie.Need-put-requires-3
 put-requires-3 c κs = search needs
 
 returns : tie.Need-returns
-unfolding countsOf stampsOf occurrencesOf
+unfolding countsWith stampsWith occurrencesWith
 returns c =
     let put = c .before .before .before .before in
     let used = put .before .before .before .before in
@@ -44,7 +44,7 @@ returns c =
     ) (put .put .ensures, (c .before .before .put2 .ensures, c .put3 .ensures))
 
 returns-2 : tie.Need-returns-2
-unfolding countsOf stampsOf occurrencesOf
+unfolding countsWith stampsWith occurrencesWith
 returns-2 c = rw (ne-eqb _ _ (c .if1 .left)) (refl, (refl, refl))
 
 pub noted-spec : {M : Type 1} → statement M
