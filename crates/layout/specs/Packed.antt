@@ -7,12 +7,12 @@ use Rattle.layout.specs.Text.{textNumber}
 use Rattle.layout.specs.Rows.{Listed, rowTable, noRow, rowCount, none, code, parent}
 use Rattle.layout.specs.Kinds.{Kind, codeField, free, C, N, N-, decimals, date, lfpd, brasil, opens, count, kindsOf, start}
 
--- "constant table of the 98 rows (code, fields, level, occurrence)": one number each, and one more for "no row"
-abbrev pub packed : Listed → ℕ
-packed l = 4294967296 * textNumber (l .code) + 16777216 * l .fields + 65536 * l .level + l .occurrence
+-- "constant table of the 98 rows (code, fields, level, occurrence)": these four numbers a row, and one row more for "no row"
+abbrev pub numbersOf : Listed → List ℕ
+numbersOf l = textNumber (l .code) ∷ l .fields ∷ l .level ∷ l .occurrence ∷ []
 
-unfoldable pub packedRows : List ℕ
-packedRows = map packed (rowTable ++ noRow ∷ [])
+unfoldable pub rowNumbers : List (List ℕ)
+rowNumbers = map numbersOf (rowTable ++ noRow ∷ [])
 
 -- a number for each row, and one more for "no row"
 abbrev column : (ℕ → ℕ) → List ℕ

@@ -1,6 +1,6 @@
 // The row of a code, by a slot for each code.
 ghost use mathlib.Core.Path.{_≡_};
-ghost use Rattle.layout.specs.Packed.{packedRows, slotOf, slotTable};
+ghost use Rattle.layout.specs.Packed.{rowNumbers, slotOf, slotTable};
 ghost use Rattle.layout.specs.Rows.{rowOfCode};
 use super::rows;
 use super::rows::ENTRIES;
@@ -28,8 +28,8 @@ fn slot_of(code: u64) -> usize
 }
 
 // The row of a code: only the row at its slot can have it.
-pub fn row_of_code(slots: &[usize; SLOTS], rows: &[u64; ENTRIES], code: u64) -> usize
-    requires { ⌜ (now slots ≡ slotTable) × (now rows ≡ packedRows) ⌝ }
+pub fn row_of_code(slots: &[usize; SLOTS], rows: &[[u64; 4]; ENTRIES], code: u64) -> usize
+    requires { ⌜ (now slots ≡ slotTable) × (now rows ≡ rowNumbers) ⌝ }
     ensures { λ r. ⌜ r ≡ rowOfCode code ⌝ }
 {
     let r = slots[slot_of(code)];

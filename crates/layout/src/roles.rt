@@ -1,7 +1,7 @@
 // What a row is among the lines of its block: the opening x001, the closing x990; and the block's place in the order of blocks.
 ghost use Prim.Native.Nat.{_≤_};
 ghost use mathlib.Core.Path.{_≡_};
-ghost use Rattle.layout.specs.Packed.{packedRows};
+ghost use Rattle.layout.specs.Packed.{rowNumbers};
 ghost use Rattle.layout.specs.Rows.{rowCount, isOpening, isClosing, block, placeOf, blockLetters};
 use super::rows;
 use super::rows::ENTRIES;
@@ -14,15 +14,15 @@ const OPENING: u64 = 0x303031;
 
 const CLOSING: u64 = 0x393930;
 
-pub fn is_opening(rows: &[u64; ENTRIES], r: usize) -> bool
-    requires { ⌜ (now rows ≡ packedRows) × (r ≤ rowCount) ⌝ }
+pub fn is_opening(rows: &[[u64; 4]; ENTRIES], r: usize) -> bool
+    requires { ⌜ (now rows ≡ rowNumbers) × (r ≤ rowCount) ⌝ }
     ensures { λ t. ⌜ t ≡ isOpening r ⌝ }
 {
     rows::code_at(rows, r) % BLOCK == OPENING
 }
 
-pub fn is_closing(rows: &[u64; ENTRIES], r: usize) -> bool
-    requires { ⌜ (now rows ≡ packedRows) × (r ≤ rowCount) ⌝ }
+pub fn is_closing(rows: &[[u64; 4]; ENTRIES], r: usize) -> bool
+    requires { ⌜ (now rows ≡ rowNumbers) × (r ≤ rowCount) ⌝ }
     ensures { λ t. ⌜ t ≡ isClosing r ⌝ }
 {
     rows::code_at(rows, r) % BLOCK == CLOSING
@@ -44,8 +44,8 @@ fn place_of(letter: u64) -> u64
     }
 }
 
-pub fn block_at(rows: &[u64; ENTRIES], r: usize) -> u64
-    requires { ⌜ (now rows ≡ packedRows) × (r ≤ rowCount) ⌝ }
+pub fn block_at(rows: &[[u64; 4]; ENTRIES], r: usize) -> u64
+    requires { ⌜ (now rows ≡ rowNumbers) × (r ≤ rowCount) ⌝ }
     ensures { λ b. ⌜ b ≡ block r ⌝ }
 {
     place_of(rows::code_at(rows, r) / BLOCK)

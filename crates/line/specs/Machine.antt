@@ -8,7 +8,7 @@ use lib.ListN.{getD}
 use Rattle.layout.specs.Pick.{pick}
 use Rattle.layout.specs.Rows.{rowCount, none, anyNumber, level, limit, fields, block, parent, isOpening, isClosing, row0000, row9990, row9999, rowOfCode}
 use Rattle.layout.specs.Kinds.{opens, kind}
-use Rattle.layout.specs.Packed.{packedRows, parentColumn, packedKinds, startColumn, slotTable, kindNumber}
+use Rattle.layout.specs.Packed.{rowNumbers, parentColumn, packedKinds, startColumn, slotTable, kindNumber}
 use Rattle.rules.specs.Bytes.{bar, CR, LF, isEndByte}
 use Rattle.rules.specs.Order.{isData}
 use Rattle.layout.specs.Climb.{climb}
@@ -30,8 +30,8 @@ pub record HotFit (h : Hot) : Type 0 where
   pub value : h .field .value ≤ cap
 
 -- the tables that are handed on
-pub record Tables (rs ps ks ss cs : List ℕ) : Type 0 where
-  pub rows : rs ≡ packedRows
+pub record Tables (rs : List (List ℕ)) (ps ks ss cs : List ℕ) : Type 0 where
+  pub rows : rs ≡ rowNumbers
   pub parents : ps ≡ parentColumn
   pub kinds : ks ≡ packedKinds
   pub starts : ss ≡ startColumn

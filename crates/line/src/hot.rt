@@ -1,6 +1,6 @@
 // What changes with each byte: scalars of one width only, so that the byte loop keeps them in registers.
 ghost use mathlib.Core.Path.{_≡_};
-ghost use Rattle.layout.specs.Packed.{packedRows};
+ghost use Rattle.layout.specs.Packed.{rowNumbers};
 ghost use Rattle.line.specs.Machine.{HotFit, grownOf, movedOf, endedOf, sinceOf};
 use field::bytes::Field;
 use layout::rows::ENTRIES;
@@ -67,9 +67,9 @@ pub fn moved(h: Hot, row: usize, fields: u64, kind: u64, says: u64) -> Hot
 }
 
 // The lines since the last closing, once the line at hand has ended.
-fn since_with(rows: &[u64; ENTRIES], h: Hot) -> u64
+fn since_with(rows: &[[u64; 4]; ENTRIES], h: Hot) -> u64
     requires { ⌜ HotFit h ⌝ }
-    requires { ⌜ now rows ≡ packedRows ⌝ }
+    requires { ⌜ now rows ≡ rowNumbers ⌝ }
     ensures { λ r. ⌜ r ≡ sinceOf h ⌝ }
 {
     if layout::roles::is_closing(rows, h.row) {
@@ -79,9 +79,9 @@ fn since_with(rows: &[u64; ENTRIES], h: Hot) -> u64
 }
 
 // The line at hand has ended.
-pub fn ended(rows: &[u64; ENTRIES], h: Hot) -> Hot
+pub fn ended(rows: &[[u64; 4]; ENTRIES], h: Hot) -> Hot
     requires { ⌜ HotFit h ⌝ }
-    requires { ⌜ now rows ≡ packedRows ⌝ }
+    requires { ⌜ now rows ≡ rowNumbers ⌝ }
     ensures { λ r. ⌜ r ≡ endedOf h ⌝ }
 {
     Hot {

@@ -2,7 +2,7 @@
 ghost use mathlib.Core.Path.{_≡_};
 ghost use Prim.Native.Nat.{_≤_, _<_};
 ghost use Rattle.layout.specs.Rows.{rowCount, level};
-ghost use Rattle.layout.specs.Packed.{packedRows, parentColumn};
+ghost use Rattle.layout.specs.Packed.{rowNumbers, parentColumn};
 ghost use Rattle.rules.specs.Order.{isData};
 ghost use Rattle.layout.specs.Climb.{climb};
 ghost use Rattle.line.specs.Machine.{startsOf, endsOf, hangsOf, standsOf, entryOf, usedOf, roomOf, misplacedOf};
@@ -31,8 +31,8 @@ pub const WITH_DATA: u64 = 1;
 pub const WITHOUT_DATA: u64 = 2;
 
 // The first of a row and its ancestors whose level is n or below.
-fn climb_to(rows: &[u64; ENTRIES], parents: &[usize; ENTRIES], n: u64, from: usize) -> usize
-    requires { ⌜ (now rows ≡ packedRows) × (now parents ≡ parentColumn) × (1 ≤ n) × (from ≤ rowCount) ⌝ }
+fn climb_to(rows: &[[u64; 4]; ENTRIES], parents: &[usize; ENTRIES], n: u64, from: usize) -> usize
+    requires { ⌜ (now rows ≡ rowNumbers) × (now parents ≡ parentColumn) × (1 ≤ n) × (from ≤ rowCount) ⌝ }
     ensures { λ x. ⌜ x ≡ climb n from ⌝ }
 {
     let mut x = from;
@@ -42,8 +42,8 @@ fn climb_to(rows: &[u64; ENTRIES], parents: &[usize; ENTRIES], n: u64, from: usi
     x
 }
 
-fn starts_block(rows: &[u64; ENTRIES], last: usize, r: usize) -> bool
-    requires { ⌜ (now rows ≡ packedRows) × (last ≤ rowCount) × (r ≤ rowCount) ⌝ }
+fn starts_block(rows: &[[u64; 4]; ENTRIES], last: usize, r: usize) -> bool
+    requires { ⌜ (now rows ≡ rowNumbers) × (last ≤ rowCount) × (r ≤ rowCount) ⌝ }
     ensures { λ t. ⌜ t ≡ startsOf last r ⌝ }
 {
     let block = block_at(rows, r);
@@ -56,8 +56,8 @@ fn starts_block(rows: &[u64; ENTRIES], last: usize, r: usize) -> bool
     false
 }
 
-fn ends_block(rows: &[u64; ENTRIES], last: usize, r: usize) -> bool
-    requires { ⌜ (now rows ≡ packedRows) × (last ≤ rowCount) × (r ≤ rowCount) ⌝ }
+fn ends_block(rows: &[[u64; 4]; ENTRIES], last: usize, r: usize) -> bool
+    requires { ⌜ (now rows ≡ rowNumbers) × (last ≤ rowCount) × (r ≤ rowCount) ⌝ }
     ensures { λ t. ⌜ t ≡ endsOf last r ⌝ }
 {
     if block_at(rows, last) != block_at(rows, r) {
@@ -69,16 +69,16 @@ fn ends_block(rows: &[u64; ENTRIES], last: usize, r: usize) -> bool
     0 < level_at(rows, last)
 }
 
-fn hangs(rows: &[u64; ENTRIES], parents: &[usize; ENTRIES], last: usize, r: usize) -> bool
-    requires { ⌜ (now rows ≡ packedRows) × (now parents ≡ parentColumn) × (last ≤ rowCount) × (r < rowCount) × (2 ≤ level r) ⌝ }
+fn hangs(rows: &[[u64; 4]; ENTRIES], parents: &[usize; ENTRIES], last: usize, r: usize) -> bool
+    requires { ⌜ (now rows ≡ rowNumbers) × (now parents ≡ parentColumn) × (last ≤ rowCount) × (r < rowCount) × (2 ≤ level r) ⌝ }
     ensures { λ t. ⌜ t ≡ hangsOf last r ⌝ }
 {
     let parent = parent_at(parents, r);
     climb_to(rows, parents, level_at(rows, parent), last) == parent
 }
 
-pub fn stands(rows: &[u64; ENTRIES], parents: &[usize; ENTRIES], last: usize, r: usize) -> bool
-    requires { ⌜ (now rows ≡ packedRows) × (now parents ≡ parentColumn) × (last ≤ rowCount) × (r < rowCount) ⌝ }
+pub fn stands(rows: &[[u64; 4]; ENTRIES], parents: &[usize; ENTRIES], last: usize, r: usize) -> bool
+    requires { ⌜ (now rows ≡ rowNumbers) × (now parents ≡ parentColumn) × (last ≤ rowCount) × (r < rowCount) ⌝ }
     ensures { λ t. ⌜ t ≡ standsOf last r ⌝ }
 {
     if r == ROW_0000 {
@@ -120,13 +120,13 @@ pub fn used(
 }
 
 pub fn has_room(
-    rows: &[u64; ENTRIES],
+    rows: &[[u64; 4]; ENTRIES],
     parents: &[usize; ENTRIES],
     stamps: &[u64; ROWS],
     occurrences: &[u64; ROWS],
     r: usize,
 ) -> bool
-    requires { ⌜ (now rows ≡ packedRows) × (now parents ≡ parentColumn) × (r ≤ rowCount) ⌝ }
+    requires { ⌜ (now rows ≡ rowNumbers) × (now parents ≡ parentColumn) × (r ≤ rowCount) ⌝ }
     ensures { λ t. ⌜ t ≡ roomOf (now (stamps .entry)) (now (occurrences .entry)) r ⌝ }
 {
     let most = limit_at(rows, r);
@@ -136,16 +136,16 @@ pub fn has_room(
     used(parents, stamps, occurrences, r) < most
 }
 
-fn is_data(rows: &[u64; ENTRIES], r: usize) -> bool
-    requires { ⌜ (now rows ≡ packedRows) × (r ≤ rowCount) ⌝ }
+fn is_data(rows: &[[u64; 4]; ENTRIES], r: usize) -> bool
+    requires { ⌜ (now rows ≡ rowNumbers) × (r ≤ rowCount) ⌝ }
     ensures { λ t. ⌜ t ≡ isData r ⌝ }
 {
     DATA_LEVEL <= level_at(rows, r)
 }
 
 // A data line after an opening that says there are none, or a closing right after one that says there are.
-pub fn misplaced(rows: &[u64; ENTRIES], says: u64, r: usize) -> bool
-    requires { ⌜ (now rows ≡ packedRows) × (r ≤ rowCount) ⌝ }
+pub fn misplaced(rows: &[[u64; 4]; ENTRIES], says: u64, r: usize) -> bool
+    requires { ⌜ (now rows ≡ rowNumbers) × (r ≤ rowCount) ⌝ }
     ensures { λ t. ⌜ t ≡ misplacedOf says r ⌝ }
 {
     if says == WITHOUT_DATA {

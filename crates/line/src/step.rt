@@ -2,7 +2,7 @@
 ghost use mathlib.Core.Path.{_≡_};
 ghost use Prim.Native.Nat.{_≤_, _<_, _+_};
 ghost use Rattle.layout.specs.Rows.{rowCount};
-ghost use Rattle.layout.specs.Packed.{packedRows, parentColumn, packedKinds, startColumn, slotTable, kindNumber};
+ghost use Rattle.layout.specs.Packed.{rowNumbers, parentColumn, packedKinds, startColumn, slotTable, kindNumber};
 ghost use Rattle.layout.specs.Kinds.{kind};
 ghost use Rattle.rules.specs.Bytes.{isEndByte};
 ghost use Rattle.field.specs.Streaming.{faultOf};
@@ -82,8 +82,8 @@ pub enum Step {
 }
 
 // The row of the code at hand, or no row.
-fn word_row(rows: &[u64; ENTRIES], slots: &[usize; SLOTS], h: Hot) -> usize
-    requires { ⌜ (now rows ≡ packedRows) × (now slots ≡ slotTable) ⌝ }
+fn word_row(rows: &[[u64; 4]; ENTRIES], slots: &[usize; SLOTS], h: Hot) -> usize
+    requires { ⌜ (now rows ≡ rowNumbers) × (now slots ≡ slotTable) ⌝ }
     ensures { λ r. ⌜ r ≡ wordRow h ⌝ }
 {
     let f = h.field;
@@ -95,13 +95,13 @@ fn word_row(rows: &[u64; ENTRIES], slots: &[usize; SLOTS], h: Hot) -> usize
 
 // The kind of a row's field n; past the row's fields there is none, and free stands for it.
 fn kind_of(
-    rows: &[u64; ENTRIES],
+    rows: &[[u64; 4]; ENTRIES],
     kinds: &[u32; FIELDS],
     starts: &[usize; ENTRIES],
     r: usize,
     n: u64,
 ) -> u64
-    requires { ⌜ (now rows ≡ packedRows) × (now kinds ≡ packedKinds) × (now starts ≡ startColumn) × (r ≤ rowCount) × (2 ≤ n) ⌝ }
+    requires { ⌜ (now rows ≡ rowNumbers) × (now kinds ≡ packedKinds) × (now starts ≡ startColumn) × (r ≤ rowCount) × (2 ≤ n) ⌝ }
     ensures { λ k. ⌜ k ≡ kindNumber (kind r n) ⌝ }
 {
     if fields_at(rows, r) < n {
@@ -113,7 +113,7 @@ fn kind_of(
 // The bar after field 1, of a line whose code has the row r.
 fn code_bar(
     h: Hot,
-    rows: &[u64; ENTRIES],
+    rows: &[[u64; 4]; ENTRIES],
     parents: &[usize; ENTRIES],
     kinds: &[u32; FIELDS],
     starts: &[usize; ENTRIES],
@@ -122,7 +122,7 @@ fn code_bar(
     r: usize,
 ) -> Step
     requires { ⌜ HotFit h ⌝ }
-    requires { ⌜ (now rows ≡ packedRows) × (now parents ≡ parentColumn) × (now kinds ≡ packedKinds) × (now starts ≡ startColumn) × (r ≤ rowCount) ⌝ }
+    requires { ⌜ (now rows ≡ rowNumbers) × (now parents ≡ parentColumn) × (now kinds ≡ packedKinds) × (now starts ≡ startColumn) × (r ≤ rowCount) ⌝ }
     ensures { λ t. ⌜ t ≡ codeBarOf h (now (stamps .entry)) (now (occurrences .entry)) r ⌝ }
 {
     if r == ROWS {
@@ -147,9 +147,9 @@ fn code_bar(
 }
 
 // What field 2 of a closing, or of 9999, must state. Block 9 counts 9999 ahead.
-fn due(rows: &[u64; ENTRIES], h: Hot) -> u64
+fn due(rows: &[[u64; 4]; ENTRIES], h: Hot) -> u64
     requires { ⌜ HotFit h ⌝ }
-    requires { ⌜ now rows ≡ packedRows ⌝ }
+    requires { ⌜ now rows ≡ rowNumbers ⌝ }
     ensures { λ n. ⌜ n ≡ dueOf h ⌝ }
 {
     let r = h.row;
@@ -163,9 +163,9 @@ fn due(rows: &[u64; ENTRIES], h: Hot) -> u64
 }
 
 // The rule that the field at hand breaks, or 0. Of a free field nothing is asked, and what is due is asked of counts alone.
-fn found(rows: &[u64; ENTRIES], h: Hot) -> u64
+fn found(rows: &[[u64; 4]; ENTRIES], h: Hot) -> u64
     requires { ⌜ HotFit h ⌝ }
-    requires { ⌜ now rows ≡ packedRows ⌝ }
+    requires { ⌜ now rows ≡ rowNumbers ⌝ }
     ensures { λ n. ⌜ n ≡ faultOf (h .kind) (h .field) (dueOf h) ⌝ }
 {
     if h.kind == FREE {
@@ -195,13 +195,13 @@ fn says(h: Hot) -> u64
 // The bar after a later field, in which it found the broken rule n, or none.
 fn field_bar(
     h: Hot,
-    rows: &[u64; ENTRIES],
+    rows: &[[u64; 4]; ENTRIES],
     kinds: &[u32; FIELDS],
     starts: &[usize; ENTRIES],
     n: u64,
 ) -> Step
     requires { ⌜ HotFit h ⌝ }
-    requires { ⌜ (now rows ≡ packedRows) × (now kinds ≡ packedKinds) × (now starts ≡ startColumn) × (1 ≤ h .bars) ⌝ }
+    requires { ⌜ (now rows ≡ rowNumbers) × (now kinds ≡ packedKinds) × (now starts ≡ startColumn) × (1 ≤ h .bars) ⌝ }
     ensures { λ t. ⌜ t ≡ fieldBarOf h n ⌝ }
 {
     if n != 0 {
@@ -220,7 +220,7 @@ fn field_bar(
 // A bar in a line.
 fn bar(
     h: Hot,
-    rows: &[u64; ENTRIES],
+    rows: &[[u64; 4]; ENTRIES],
     parents: &[usize; ENTRIES],
     kinds: &[u32; FIELDS],
     starts: &[usize; ENTRIES],
@@ -268,9 +268,9 @@ fn control(h: Hot, b: u8) -> Step
 }
 
 // A byte past the last field.
-fn past(h: Hot, rows: &[u64; ENTRIES], b: u8) -> Step
+fn past(h: Hot, rows: &[[u64; 4]; ENTRIES], b: u8) -> Step
     requires { ⌜ HotFit h ⌝ }
-    requires { ⌜ now rows ≡ packedRows ⌝ }
+    requires { ⌜ now rows ≡ rowNumbers ⌝ }
     ensures { λ t. ⌜ t ≡ pastOf h b ⌝ }
 {
     let f = h.field;
@@ -306,7 +306,7 @@ fn first(h: Hot, b: u8) -> Step
 // One byte.
 pub fn judge(
     h: Hot,
-    rows: &[u64; ENTRIES],
+    rows: &[[u64; 4]; ENTRIES],
     parents: &[usize; ENTRIES],
     kinds: &[u32; FIELDS],
     starts: &[usize; ENTRIES],

@@ -54,7 +54,7 @@ fn noted(
 
 // A piece, from a state in which nothing is refused.
 fn judge_all(
-    rows: &[u64; ENTRIES],
+    rows: &[[u64; 4]; ENTRIES],
     parents: &[usize; ENTRIES],
     kinds: &[u32; FIELDS],
     starts: &[usize; ENTRIES],

@@ -1,17 +1,20 @@
--- The number of fields is a part of the row's number.
+-- The number of fields is one of the row's four numbers.
 use borrow.Author.Needs.{needs}
-use Rattle.layout.proofs.PackedLaws.{fields-part}
+use Rattle.layout.proofs.PackedLaws.{fields-entry}
 use Rattle.layout.proofs.rows.fields_at.Statement.{statement}
 use Rattle.layout.proofs.rows.fields_at.Tie as tie
 
 mul-result : tie.Need-mul-result
 mul-result c = search needs
 
-element-copy-out-result : tie.Need-element-copy-out-result
-element-copy-out-result c = search needs
+index-1-result : tie.Need-index-1-result
+index-1-result c = search needs
+
+index-2-result : tie.Need-index-2-result
+index-2-result c = search needs
 
 returns : tie.Need-returns
-returns c = rw (c .before .pre .0) (fields-part (c .before .args .r) (c .before .pre .1))
+returns c = rw (c .before .pre .0) (fields-entry (c .before .args .r) (c .before .pre .1))
 
 pub fields-at-spec : {M : Type 1} → statement M
-fields-at-spec = tie.close (tie.spec mul-result element-copy-out-result returns)
+fields-at-spec = tie.close (tie.spec mul-result index-1-result index-2-result returns)

@@ -1,17 +1,20 @@
--- The level is a part of the row's number.
+-- The level is one of the row's four numbers.
 use borrow.Author.Needs.{needs}
-use Rattle.layout.proofs.PackedLaws.{level-part}
+use Rattle.layout.proofs.PackedLaws.{level-entry}
 use Rattle.layout.proofs.rows.level_at.Statement.{statement}
 use Rattle.layout.proofs.rows.level_at.Tie as tie
 
 mul-result : tie.Need-mul-result
 mul-result c = search needs
 
-element-copy-out-result : tie.Need-element-copy-out-result
-element-copy-out-result c = search needs
+index-1-result : tie.Need-index-1-result
+index-1-result c = search needs
+
+index-2-result : tie.Need-index-2-result
+index-2-result c = search needs
 
 returns : tie.Need-returns
-returns c = rw (c .before .pre .0) (level-part (c .before .args .r) (c .before .pre .1))
+returns c = rw (c .before .pre .0) (level-entry (c .before .args .r) (c .before .pre .1))
 
 pub level-at-spec : {M : Type 1} → statement M
-level-at-spec = tie.close (tie.spec mul-result element-copy-out-result returns)
+level-at-spec = tie.close (tie.spec mul-result index-1-result index-2-result returns)

@@ -2,12 +2,12 @@
 use mathlib.Core.Path.{refl}
 use Rattle.layout.specs.Text.{bytes, codeNumber, textNumber}
 use Rattle.layout.specs.Rows.{rowTable}
-use Rattle.layout.specs.Packed.{packedRows}
+use Rattle.layout.specs.Packed.{rowNumbers}
 use Rattle.layout.proofs.rows.table.Statement.{statement}
 use Rattle.layout.proofs.rows.table.Tie as tie
 
 returns : tie.Need-returns
-unfolding packedRows rowTable bytes codeNumber textNumber
+unfolding rowNumbers rowTable bytes codeNumber textNumber
 returns c = refl
 
 pub table-spec : {M : Type 1} → statement M
