@@ -11,7 +11,7 @@ use borrow.Author.Tests.{ne-eqb, eqb-true, eqb-false, lt-leb, le-ltb, lt-ltb, le
 use Rattle.layout.specs.Pick.{pick}
 use Rattle.layout.specs.Text.{bytes}
 use Rattle.layout.specs.Kinds.{Kind, codeField, free, C, N, N-, decimals, date, lfpd, brasil, opens, count}
-use Rattle.layout.specs.Packed.{kindNumber}
+use Rattle.layout.specs.Packed.{kindNumber, sizeUnit, cClass, nClass, nAnyClass, decimalsClass, dateClass, lfpdClass, brasilClass, opensClass, countClass}
 use Rattle.rules.specs.Bytes.{empty}
 use Rattle.rules.specs.Fields.{isDigit, allDigits, value, isDecimal, isDate, sameBytes, isText, formOf, states}
 use Rattle.field.specs.declared.bytes.Field.{Field}
@@ -29,13 +29,13 @@ abbrev Agrees : Kind → ℕ → List ℕ → Type 0
 Agrees k due w = faultOf (kindNumber k) (fieldAfter (kindNumber k) w) due ≡ ruled (formOf k) due w
 
 -- a kind's class and size, from the number that holds both
-class-of : (c n : ℕ) → c < 16 → (c + 16 * n) % 16 ≡ c
-class-of c n h = add-mul-mod-self-left c 16 n ∙ mod-eq-of-lt h
+class-of : (c n : ℕ) → c < sizeUnit → (c + sizeUnit * n) % sizeUnit ≡ c
+class-of c n h = add-mul-mod-self-left c sizeUnit n ∙ mod-eq-of-lt h
 
-size-of : (c n : ℕ) → c < 16 → (c + 16 * n) / 16 ≡ n
-size-of c n h = add-mul-div-left c n {y = 16} (omega arith) ∙ ap (λ k. k + n) (div-eq-of-lt h) ∙ omega arith
+size-of : (c n : ℕ) → c < sizeUnit → (c + sizeUnit * n) / sizeUnit ≡ n
+size-of c n h = add-mul-div-left c n {y = sizeUnit} (omega arith) ∙ ap (λ k. k + n) (div-eq-of-lt h) ∙ omega arith
 
-fault-at : (c n : ℕ) (f : Field) (due : ℕ) → c < 16 → faultOf (c + 16 * n) f due ≡ pick (ltb c 2) 0 (pick (isTextClass c) (textFault c n f) (numberFault c n f due))
+fault-at : (c n : ℕ) (f : Field) (due : ℕ) → c < sizeUnit → faultOf (c + sizeUnit * n) f due ≡ pick (ltb c cClass) 0 (pick (isTextClass c) (textFault c n f) (numberFault c n f due))
 unfolding faultOf
 fault-at c n f due h = rw (class-of c n h, size-of c n h)
 
@@ -60,12 +60,12 @@ over s n = split (leb n s) (λ t. rw t (le-ltb s n (leb-true n s t))) (λ t. rw 
 
 C-bar : (s due : ℕ) (w : List ℕ) → Agrees (C s) due w
 unfolding kindNumber isTextClass textFault fieldAfter ruled formOf empty
-C-bar s due [] = fault-at 2 s (fieldAfter (2 + 16 * s) []) due (omega arith) ∙ rw (le-ltb s 0 (omega arith))
+C-bar s due [] = fault-at cClass s (fieldAfter (kindNumber (C s)) []) due (omega arith) ∙ rw (le-ltb s 0 (omega arith))
 C-bar s due (b ∷ w) =
-    fault-at 2 s (fieldAfter (2 + 16 * s) (b ∷ w)) due (omega arith)
-    ∙ ap (λ n. pick (ltb s n) 11 0) (length-is (2 + 16 * s) (b ∷ w)) ∙ ap (λ t. pick t 11 0) (over s (suc (length w)))
+    fault-at cClass s (fieldAfter (kindNumber (C s)) (b ∷ w)) due (omega arith)
+    ∙ ap (λ n. pick (ltb s n) 11 0) (length-is (kindNumber (C s)) (b ∷ w)) ∙ ap (λ t. pick t 11 0) (over s (suc (length w)))
 
-module _ (kind c : ℕ) (text : List ℕ) (on : (f : Field) (b : ℕ) → withByte kind f b ≡ textWith text f b) (other : eqb c 2 ≡ false) where
+module _ (kind c : ℕ) (text : List ℕ) (on : (f : Field) (b : ℕ) → withByte kind f b ≡ textWith text f b) (other : eqb c cClass ≡ false) where
   text-bar : (w : List ℕ) → textFault c (length text) (fieldAfter kind w) ≡ pick (not (leb (length w) (length text))) 11 (pick (not (sameBytes w (reverse text))) 12 0)
   unfolding textFault
   text-bar w =
@@ -73,13 +73,13 @@ module _ (kind c : ℕ) (text : List ℕ) (on : (f : Field) (b : ℕ) → withBy
 
 lfpd-bar : (due : ℕ) (w : List ℕ) → Agrees lfpd due w
 unfolding kindNumber faultOf isTextClass withByte isPlain fieldAfter ruled formOf empty isText bytes
-lfpd-bar due [] = text-bar 71 7 (bytes "LFPD") (λ f b. refl) refl []
-lfpd-bar due (b ∷ w) = text-bar 71 7 (bytes "LFPD") (λ f b. refl) refl (b ∷ w)
+lfpd-bar due [] = text-bar (kindNumber lfpd) lfpdClass (bytes "LFPD") (λ f b. refl) refl []
+lfpd-bar due (b ∷ w) = text-bar (kindNumber lfpd) lfpdClass (bytes "LFPD") (λ f b. refl) refl (b ∷ w)
 
 brasil-bar : (due : ℕ) (w : List ℕ) → Agrees brasil due w
 unfolding kindNumber faultOf isTextClass withByte isPlain fieldAfter ruled formOf empty isText bytes
-brasil-bar due [] = text-bar 104 8 (bytes "Brasil") (λ f b. refl) refl []
-brasil-bar due (b ∷ w) = text-bar 104 8 (bytes "Brasil") (λ f b. refl) refl (b ∷ w)
+brasil-bar due [] = text-bar (kindNumber brasil) brasilClass (bytes "Brasil") (λ f b. refl) refl []
+brasil-bar due (b ∷ w) = text-bar (kindNumber brasil) brasilClass (bytes "Brasil") (λ f b. refl) refl (b ∷ w)
 
 -- numbers: the form, the size, and then what the content is asked
 in-turn : (form size : Bool) (x y : ℕ) → (form ≡ true → size ≡ true → x ≡ y) → pick form (pick size x 11) 10 ≡ pick (not form) 10 (pick (not size) 11 y)
@@ -91,7 +91,7 @@ number-bar : (c n : ℕ) (f : Field) (due l v : ℕ) (form : Bool) → rightForm
 unfolding numberFault
 number-bar c n f due l v form p q r = rw (p, q, r, ne-eqb (suc l) 0 (λ e. omega arith))
 
-module _ (kind c n : ℕ) (on : (f : Field) (b : ℕ) → withByte kind f b ≡ digitWith f b) (other : eqb c 5 ≡ false) where
+module _ (kind c n : ℕ) (on : (f : Field) (b : ℕ) → withByte kind f b ≡ digitWith f b) (other : eqb c decimalsClass ≡ false) where
   digits-form : (w : List ℕ) → rightForm c n (fieldAfter kind w) ≡ allDigits w
   unfolding rightForm
   digits-form w =
@@ -103,34 +103,34 @@ module _ (kind c n : ℕ) (on : (f : Field) (b : ℕ) → withByte kind f b ≡ 
       number-bar c n (fieldAfter kind (b ∷ w)) due (length w) (min cap (value (b ∷ w))) (allDigits (b ∷ w)) (digits-form (b ∷ w))
       (length-is kind (b ∷ w)) (digits-value kind on (b ∷ w))
 
-N-on : (s : ℕ) (f : Field) (b : ℕ) → withByte (3 + 16 * s) f b ≡ digitWith f b
-unfolding withByte isPlain
-N-on s f b = rw (class-of 3 s (omega arith))
+N-on : (s : ℕ) (f : Field) (b : ℕ) → withByte (kindNumber (N s)) f b ≡ digitWith f b
+unfolding kindNumber withByte isPlain
+N-on s f b = rw (class-of nClass s (omega arith))
 
 N-bar : (s due : ℕ) (w : List ℕ) → Agrees (N s) due w
 unfolding kindNumber isTextClass fieldAfter numberFault emptyFault rightSize isExact contentFault ruled formOf empty
-N-bar s due [] = fault-at 3 s (fieldAfter (3 + 16 * s) []) due (omega arith)
+N-bar s due [] = fault-at nClass s (fieldAfter (kindNumber (N s)) []) due (omega arith)
 N-bar s due (b ∷ w) =
-    fault-at 3 s (fieldAfter (3 + 16 * s) (b ∷ w)) due (omega arith) ∙ digits-bar (3 + 16 * s) 3 s (N-on s) refl due b w
+    fault-at nClass s (fieldAfter (kindNumber (N s)) (b ∷ w)) due (omega arith) ∙ digits-bar (kindNumber (N s)) nClass s (N-on s) refl due b w
     ∙ in-turn (allDigits (b ∷ w)) (eqb (suc (length w)) s) 0 0 (λ p q. refl)
 
 N--bar : (due : ℕ) (w : List ℕ) → Agrees N- due w
 unfolding kindNumber faultOf isTextClass withByte isPlain fieldAfter numberFault emptyFault rightSize isExact contentFault ruled formOf empty
 N--bar due [] = refl
-N--bar due (b ∷ w) = digits-bar 4 4 0 (λ f b. refl) refl due b w ∙ in-turn (allDigits (b ∷ w)) true 0 0 (λ p q. refl)
+N--bar due (b ∷ w) = digits-bar (kindNumber N-) nAnyClass 0 (λ f b. refl) refl due b w ∙ in-turn (allDigits (b ∷ w)) true 0 0 (λ p q. refl)
 
-decimals-on : (d : ℕ) (f : Field) (b : ℕ) → withByte (5 + 16 * d) f b ≡ decimalWith f b
-unfolding withByte isPlain
-decimals-on d f b = rw (class-of 5 d (omega arith))
+decimals-on : (d : ℕ) (f : Field) (b : ℕ) → withByte (kindNumber (decimals d)) f b ≡ decimalWith f b
+unfolding kindNumber withByte isPlain
+decimals-on d f b = rw (class-of decimalsClass d (omega arith))
 
 decimals-bar : (d due : ℕ) (w : List ℕ) → length w ≤ cap → Agrees (decimals d) due w
 unfolding kindNumber isTextClass fieldAfter numberFault emptyFault rightForm rightSize isExact contentFault ruled formOf empty
-decimals-bar d due [] h = fault-at 5 d (fieldAfter (5 + 16 * d) []) due (omega arith)
+decimals-bar d due [] h = fault-at decimalsClass d (fieldAfter (kindNumber (decimals d)) []) due (omega arith)
 decimals-bar d due (b ∷ w) h =
-    let f = fieldAfter (5 + 16 * d) (b ∷ w) in
-    fault-at 5 d f due (omega arith)
-    ∙ number-bar 5 d f due (length w) (f .value) (isDecimal d (b ∷ w)) (decimals-is (5 + 16 * d) (decimals-on d) d (b ∷ w) h)
-    (length-is (5 + 16 * d) (b ∷ w)) refl
+    let f = fieldAfter (kindNumber (decimals d)) (b ∷ w) in
+    fault-at decimalsClass d f due (omega arith)
+    ∙ number-bar decimalsClass d f due (length w) (f .value) (isDecimal d (b ∷ w)) (decimals-is (kindNumber (decimals d)) (decimals-on d) d (b ∷ w) h)
+    (length-is (kindNumber (decimals d)) (b ∷ w)) refl
     ∙ in-turn (isDecimal d (b ∷ w)) true 0 0 (λ p q. refl)
 
 -- the value of eight digits is kept whole
@@ -142,7 +142,7 @@ unfolding kindNumber faultOf isTextClass withByte isPlain fieldAfter numberFault
 date-bar due [] = refl
 date-bar due (b ∷ w) =
     let v = value (b ∷ w) in
-    digits-bar 134 6 8 (λ f b. refl) refl due b w
+    digits-bar (kindNumber date) dateClass 8 (λ f b. refl) refl due b w
     ∙ in-turn (allDigits (b ∷ w)) (eqb (suc (length w)) 8) (pick (isDate (min cap v)) 0 12) (pick (not (isDate v)) 12 0)
     (λ p q. rw (whole (b ∷ w) p (eqb-true (suc (length w)) 8 q)) (turned (isDate v) 12))
 
@@ -165,7 +165,7 @@ unfolding kindNumber faultOf isTextClass withByte isPlain fieldAfter numberFault
 opens-bar due [] = refl
 opens-bar due (b ∷ w) =
     let text = isText "0" (b ∷ w) || isText "1" (b ∷ w) in
-    digits-bar 25 9 1 (λ f b. refl) refl due b w
+    digits-bar (kindNumber opens) opensClass 1 (λ f b. refl) refl due b w
     ∙ in-turn (allDigits (b ∷ w)) (eqb (suc (length w)) 1) (pick (leb (min cap (value (b ∷ w))) 1) 0 12) (pick (not text) 12 0)
     (λ p q. ap (λ t. pick t 0 12) (one-digit b w p q) ∙ turned text 12)
 
@@ -174,7 +174,7 @@ unfolding kindNumber faultOf isTextClass withByte isPlain fieldAfter numberFault
 count-bar due [] h = refl
 count-bar due (b ∷ w) h =
     let v = value (b ∷ w) in
-    digits-bar 10 10 0 (λ f b. refl) refl due b w
+    digits-bar (kindNumber count) countClass 0 (λ f b. refl) refl due b w
     ∙ in-turn (allDigits (b ∷ w)) true (pick (eqb (min cap v) due) 0 13) (pick (not (eqb v due)) 13 0)
     (λ p q. rw (capped-is v due h) (turned (eqb v due) 13))
 
@@ -197,6 +197,6 @@ pub free-fault : (kind : ℕ) (f : Field) (due : ℕ) → kind ≡ 0 → faultOf
 unfolding faultOf
 free-fault kind f due e = rw e
 
-pub countless-fault : (kind : ℕ) (f : Field) (m n : ℕ) → eqb (kind % 16) 10 ≡ false → faultOf kind f m ≡ faultOf kind f n
+pub countless-fault : (kind : ℕ) (f : Field) (m n : ℕ) → eqb (kind % sizeUnit) countClass ≡ false → faultOf kind f m ≡ faultOf kind f n
 unfolding faultOf numberFault contentFault
 countless-fault kind f m n e = rw e

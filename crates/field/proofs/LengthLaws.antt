@@ -11,8 +11,9 @@ use lib.ListN.{length}
 use Rattle.layout.specs.Pick.{pick}
 use Rattle.layout.specs.Text.{bytes, codeNumber}
 use Rattle.layout.specs.Kinds.{codeField}
-use Rattle.layout.specs.Packed.{kindNumber}
+use Rattle.layout.specs.Packed.{kindNumber, codeClass, decimalsClass, lfpdClass, brasilClass, sizeUnit}
 use Rattle.rules.specs.Fields.{isDigit}
+use Rattle.rules.specs.Rules.{byteLimit}
 use Rattle.field.specs.declared.bytes.Field.{Field}
 use Rattle.field.specs.Streaming.{FieldFit, cap, emptyField, longer, codeWith, valueWith, digitWith, textWith, decimalsWith, decimalWith, isPlain, withByte, fieldAfter}
 
@@ -23,7 +24,7 @@ either P false p q = q
 
 -- what holds after one more byte of a field of each class holds after one more byte of any kind
 module _ (P : Field → Type 0) (kind : ℕ) (f : Field) (b : ℕ) where
-  by-class :
+  pub by-class :
       P (longer f (f .wrong) (f .value)) →
       P (codeWith f b) →
       P (decimalWith f b) →
@@ -32,11 +33,11 @@ module _ (P : Field → Type 0) (kind : ℕ) (f : Field) (b : ℕ) where
       P (withByte kind f b)
   unfolding withByte
   by-class plain code decimal text digit =
-      let class = kind % 16 in
+      let class = kind % sizeUnit in
       either P (isPlain class) plain
-      (either P (eqb class 1) code
-      (either P (eqb class 5) decimal
-      (either P (eqb class 7) (text (bytes "LFPD")) (either P (eqb class 8) (text (bytes "Brasil")) digit))))
+      (either P (eqb class codeClass) code
+      (either P (eqb class decimalsClass) decimal
+      (either P (eqb class lfpdClass) (text (bytes "LFPD")) (either P (eqb class brasilClass) (text (bytes "Brasil")) digit))))
 
 one-longer : (kind : ℕ) (f : Field) (b : ℕ) → withByte kind f b .length ≡ f .length + 1
 unfolding textWith decimalWith digitWith
@@ -58,10 +59,10 @@ code-is (b ∷ w) = ap (λ v. v % 16777216 * 256 + b) (code-is w)
 pub fit-fresh : FieldFit emptyField
 fit-fresh = record { length = omega arith; value = omega arith }
 
-fit-longer : (f : Field) → f .length < 4294967296 → (wrong value : ℕ) → value ≤ cap → FieldFit (longer f wrong value)
+fit-longer : (f : Field) → f .length ≤ byteLimit → (wrong value : ℕ) → value ≤ cap → FieldFit (longer f wrong value)
 fit-longer f h wrong value v = record { length = omega arith; value = v }
 
-pub fit-after : {f : Field} {b : ℕ} → FieldFit f → b < 256 → f .length < 4294967296 → (kind : ℕ) → FieldFit (withByte kind f b)
+pub fit-after : {f : Field} {b : ℕ} → FieldFit f → b < 256 → f .length ≤ byteLimit → (kind : ℕ) → FieldFit (withByte kind f b)
 unfolding textWith decimalWith digitWith valueWith decimalsWith
 fit-after {f} {b} fit hb h kind =
     by-class FieldFit kind f b

@@ -6,17 +6,18 @@ use lib.Dec.{eqb, leb, ltb}
 use lib.ListN.{getD}
 use Rattle.layout.specs.Pick.{pick}
 use Rattle.layout.specs.Text.{bytes}
-use Rattle.layout.specs.Packed.{brasilClass, cClass, codeClass, countClass, dateClass, decimalsClass, freeClass, lfpdClass, nClass, opensClass}
+use Rattle.layout.specs.Packed.{brasilClass, cClass, codeClass, countClass, dateClass, decimalsClass, freeClass, lfpdClass, nClass, opensClass, sizeUnit}
 use Rattle.rules.specs.Fields.{isDigit, isDate, comma}
+use Rattle.rules.specs.Rules.{byteLimit}
 use Rattle.field.specs.declared.bytes.Field.{Field}
 
 -- a value is kept up to just above the largest number of bytes, and so of lines
 abbrev pub cap : ℕ
-cap = 4294967296
+cap = byteLimit + 1
 
 -- what may be asked: the stored numbers' ranges
 pub record FieldFit (f : Field) : Type 0 where
-  pub length : f .length ≤ 4294967296
+  pub length : f .length ≤ byteLimit + 1
   pub value : f .value ≤ cap
 
 -- before the first byte
@@ -63,7 +64,7 @@ isPlain class = eqb class freeClass || eqb class cClass
 
 unfoldable pub withByte : ℕ → Field → ℕ → Field
 withByte kind f b =
-    let class = kind % 16 in
+    let class = kind % sizeUnit in
     pick (isPlain class) (longer f (f .wrong) (f .value))
     (pick (eqb class codeClass) (codeWith f b)
     (pick (eqb class decimalsClass) (decimalWith f b)
@@ -110,7 +111,7 @@ isTextClass class = eqb class cClass || eqb class lfpdClass || eqb class brasilC
 
 unfoldable pub faultOf : ℕ → Field → ℕ → ℕ
 faultOf kind f due =
-    let class = kind % 16 in
-    let size = kind / 16 in
+    let class = kind % sizeUnit in
+    let size = kind / sizeUnit in
     pick (ltb class cClass) 0
     (pick (isTextClass class) (textFault class size f) (numberFault class size f due))

@@ -5,7 +5,7 @@ ghost use Rattle.layout.specs.Text.{bytes};
 ghost use Rattle.rules.specs.Fields.{isDigit};
 ghost use Rattle.field.specs.Streaming.{FieldFit, cap, emptyField, codeWith, valueWith, digitWith, matches, textWith, commaFits, decimalsWith, decimalWith, isPlain, withByte};
 
-// The classes of kinds: a kind's number is its class plus 16 times its size.
+// The classes of kinds: a kind's number is its class plus CLASSES times its size.
 pub const CLASSES: u64 = layout::kinds::SIZE as u64;
 
 pub const FREE: u64 = layout::kinds::CLASS_FREE as u64;
@@ -31,7 +31,7 @@ pub const COUNT: u64 = layout::kinds::CLASS_COUNT as u64;
 const COMMA: u8 = 44;
 
 // A value is kept up to this, just above the largest number of bytes, and so of lines.
-const CAP: u64 = 4294967296;
+pub const CAP: u64 = rules::BYTE_LIMIT + 1;
 
 // How many bytes, whether one of them is wrong, and the value, by the field's kind.
 pub struct Field {

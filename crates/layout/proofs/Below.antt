@@ -11,11 +11,11 @@ unfoldable pub below : ℕ → (ℕ → Bool) → Bool
 below zero test = true
 below (suc n) test = test n && below n test
 
-and-left : (a b : Bool) → T (a && b) → T a
+pub and-left : (a b : Bool) → T (a && b) → T a
 and-left true b t = tt
 and-left false b t = t
 
-and-right : (a b : Bool) → T (a && b) → T b
+pub and-right : (a b : Bool) → T (a && b) → T b
 and-right true b t = t
 and-right false b t = absurd t
 

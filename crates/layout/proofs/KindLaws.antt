@@ -1,21 +1,22 @@
 -- Rules of the kinds: a row has one for each field, they stand in the flat table from the row's start on,
--- and field 2 of a closing, of 9999 and of an opening alone has the kind count or opens.
+-- field 2 of a closing, of 9999 and of an opening alone has the kind count or opens, and no kind's number is above mostKind.
 use mathlib.Core.Path.{_≡_, refl, sym, ap}
-use mathlib.Core.Bool.{Bool, false, _&&_, _||_}
-use Prim.Native.Nat.{ℕ, suc, _+_, _-_, _<_, _≤_}
+use mathlib.Core.Bool.{Bool, true, false, _&&_, _||_}
+use mathlib.Core.List.{List, [], _∷_}
+use Prim.Native.Nat.{ℕ, zero, suc, _+_, _-_, _<_, _≤_, zero-le}
 use native.Mathlib.Nat.{zero-add, le-of-lt}
 use native.Mathlib.Decide.{decLt}
 use native.Mathlib.Omega.{arith}
-use lib.Dec.{T, eqb}
+use lib.Dec.{T, eqb, leb, leb→le}
 use lib.ListN.{length, getD, List·getD-eq-default}
 use borrow.Author.Tests.{ne-eqb}
 use Rattle.layout.specs.Text.{bytes, codeNumber, textNumber}
 use Rattle.layout.specs.Lists.{joinedParts}
-use Rattle.layout.specs.Rows.{rowTable, rowCount, listed, code, fields, isOpening, isClosing, row9999}
-use Rattle.layout.specs.Kinds.{Kind, free, opens, count, sheets, sheetOr, kindsOf, kind, fieldCount, start}
-use Rattle.layout.specs.Packed.{kindNumber, flatKinds}
-use Rattle.layout.proofs.Below.{below, below-at, below-equal, agree, below-same}
-use Rattle.layout.proofs.RowLaws.{mostFields, fields-most}
+use Rattle.layout.specs.Rows.{rowTable, rowCount, listed, code, fields, mostFields, isOpening, isClosing, row9999}
+use Rattle.layout.specs.Kinds.{Kind, codeField, free, opens, count, sheets, sheetOr, kindsOf, kind, fieldCount, start}
+use Rattle.layout.specs.Packed.{kindNumber, mostKind, flatKinds}
+use Rattle.layout.proofs.Below.{below, below-at, below-equal, agree, below-same, and-left, and-right}
+use Rattle.layout.proofs.RowLaws.{listed-none, fields-most}
 use Rattle.layout.proofs.ListLaws.{Starts, part-ends, joined-at}
 
 pub field-count : start rowCount ≡ fieldCount
@@ -90,3 +91,35 @@ count-kind = second-is count hasCount refl (computed .0)
 pub opens-kind : (r n : ℕ) → r < rowCount → eqb (kindNumber (kind r n)) (kindNumber opens) ≡ (eqb n 2 && isOpening r)
 unfolding kindNumber
 opens-kind = second-is opens isOpening refl (computed .1)
+
+-- no kind's number is above mostKind: tested once, at the kinds of each row
+unfoldable small : List Kind → Bool
+small [] = true
+small (k ∷ ks) = leb (kindNumber k) mostKind && small ks
+
+rows-small : T (below rowCount (λ r. small (kindsOf r)))
+unfolding below small kindNumber kindsOf sheetOr sheets isOpening isClosing fields code listed rowTable textNumber codeNumber bytes
+rows-small = tt
+
+-- of "no row" only field 1 may come
+kinds-none : (r : ℕ) → rowCount ≤ r → kindsOf r ≡ codeField ∷ []
+unfolding kindsOf sheetOr sheets isOpening isClosing fields code textNumber codeNumber bytes
+kinds-none r h = rw (listed-none r h, ne-eqb r row9999 (λ e. omega arith), fields)
+
+kinds-small : (r : ℕ) → T (small (kindsOf r))
+unfolding small kindNumber
+kinds-small r = go (decLt r rowCount)
+  where
+    go : Dec (r < rowCount) → T (small (kindsOf r))
+    go (yes h) = below-at rowCount (λ r. small (kindsOf r)) rows-small r h
+    go (no h) = rw (kinds-none r (omega arith)) tt
+
+small-at : (ks : List Kind) → T (small ks) → (n : ℕ) → kindNumber (getD ks n free) ≤ mostKind
+unfolding small kindNumber
+small-at [] t n = zero-le
+small-at (k ∷ ks) t zero = leb→le _ _ (and-left (leb (kindNumber k) mostKind) (small ks) t)
+small-at (k ∷ ks) t (suc n) = small-at ks (and-right (leb (kindNumber k) mostKind) (small ks) t) n
+
+pub kind-most : (r n : ℕ) → kindNumber (kind r n) ≤ mostKind
+unfolding kind
+kind-most r n = small-at (kindsOf r) (kinds-small r) (n - 1)

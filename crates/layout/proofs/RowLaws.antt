@@ -8,7 +8,7 @@ use native.Mathlib.Omega.{arith}
 use lib.ListN.{length, List·getD-eq-default}
 use Rattle.layout.specs.Pick.{pick}
 use Rattle.layout.specs.Text.{textNumber}
-use Rattle.layout.specs.Rows.{rowTable, rowCount, noRow, listed, code, fields, level, lastAmong, row0000, row9990, row9999}
+use Rattle.layout.specs.Rows.{rowTable, rowCount, noRow, listed, code, fields, mostFields, level, lastAmong, row0000, row9990, row9999}
 use Rattle.layout.proofs.Below.{below, below-most}
 
 pub row-count : length rowTable ≡ rowCount
@@ -37,14 +37,11 @@ pub fields-two : (r : ℕ) → r < rowCount → 2 ≤ fields r
 unfolding below fields listed rowTable
 fields-two = below-most rowCount (λ r. 2) fields tt
 
--- E020 has the most fields, F225 and F230 the highest level
-abbrev pub mostFields : ℕ
-mostFields = 30
-
 pub fields-most : (r : ℕ) → r ≤ rowCount → fields r ≤ mostFields
 unfolding below fields listed rowTable
 fields-most r h = below-most (suc rowCount) fields (λ r. mostFields) tt r (suc-le-suc h)
 
+-- F225 and F230 have the highest level
 level-listed : (r : ℕ) → r < rowCount → level r ≤ 6
 unfolding below level listed rowTable
 level-listed = below-most rowCount level (λ r. 6) tt

@@ -59,19 +59,26 @@ opensClass = 9
 abbrev pub countClass : ℕ
 countClass = 10
 
--- a kind: its class, and 16 times its size; where the size is not asked of the field, it is 0
+-- a kind: its class, and so many times its size; where the size is not asked of the field, it is 0
+abbrev pub sizeUnit : ℕ
+sizeUnit = 16
+
 unfoldable pub kindNumber : Kind → ℕ
 kindNumber free = freeClass
 kindNumber codeField = codeClass
-kindNumber (C n) = cClass + 16 * n
-kindNumber (N n) = nClass + 16 * n
+kindNumber (C n) = cClass + sizeUnit * n
+kindNumber (N n) = nClass + sizeUnit * n
 kindNumber N- = nAnyClass
-kindNumber (decimals d) = decimalsClass + 16 * d
-kindNumber date = dateClass + 16 * 8
-kindNumber lfpd = lfpdClass + 16 * 4
-kindNumber brasil = brasilClass + 16 * 6
-kindNumber opens = opensClass + 16 * 1
+kindNumber (decimals d) = decimalsClass + sizeUnit * d
+kindNumber date = dateClass + sizeUnit * 8
+kindNumber lfpd = lfpdClass + sizeUnit * 4
+kindNumber brasil = brasilClass + sizeUnit * 6
+kindNumber opens = opensClass + sizeUnit * 1
 kindNumber count = countClass
+
+-- a class is below sizeUnit, and a size at most 255: that of a C without a size
+abbrev pub mostKind : ℕ
+mostKind = 15 + sizeUnit * 255
 
 -- "flat constant table of 995 field kinds, indexed through row starts"
 unfoldable pub flatKinds : List Kind

@@ -176,6 +176,10 @@ code r = textNumber (listed r .code)
 unfoldable pub fields : ℕ → ℕ
 fields r = listed r .fields
 
+-- E020 has the most
+abbrev pub mostFields : ℕ
+mostFields = 30
+
 unfoldable pub level : ℕ → ℕ
 level r = listed r .level
 

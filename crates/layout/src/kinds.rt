@@ -12,6 +12,9 @@ pub const FIELDS: usize = 995;
 // A kind's number is its class plus SIZE times its size; where nothing is asked of the size, that is 0.
 pub const SIZE: u32 = 16;
 
+// A class is below SIZE, and a size at most 255.
+pub const KIND_MOST: u64 = SIZE as u64 * 256 - 1;
+
 // The classes. Any allowed bytes: the fields of a line that is not typed.
 pub const CLASS_FREE: u32 = 0;
 

@@ -10,6 +10,9 @@ pub const ROWS: usize = 98;
 // The table has an entry for "no row" too, so that every row number is an index.
 pub const ENTRIES: usize = ROWS + 1;
 
+// E020 has the most fields.
+pub const FIELDS_MOST: u64 = 30;
+
 // Occurrence N: any number of lines under one parent line.
 pub const ANY: u64 = 0;
 

@@ -20,7 +20,7 @@ use Rattle.line.specs.declared.step.Step.the-variants.{Next, Broken}
 
 -- what a step may be asked of: the ranges of the stored numbers
 pub record HotFit (h : Hot) : Type 0 where
-  pub bytes : h .bytes ≤ 4294967296
+  pub bytes : h .bytes ≤ byteLimit + 1
   pub lines : h .lines ≤ h .bytes
   pub last : h .last ≤ rowCount
   pub since : h .since ≤ h .bytes

@@ -31,6 +31,7 @@ use layout::roles::block_at;
 use layout::rows::ENTRIES;
 use layout::rows::ROWS;
 use layout::rows::fields_at;
+use rules::BYTE_LIMIT;
 
 const BAR: u8 = 124;
 
@@ -40,9 +41,6 @@ pub const LF: u8 = 10;
 
 // The first byte that a field may hold.
 const BLANK: u8 = 32;
-
-// A file has at most so many bytes.
-const BYTE_LIMIT: u64 = 4294967295;
 
 // The rules that a byte can break here, by 01's numbers; those of a field's contents are the crate field's.
 const NOT_A_BAR: u64 = 1;

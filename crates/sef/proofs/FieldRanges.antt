@@ -2,16 +2,14 @@
 use mathlib.Core.Path.{_≡_, refl}
 use mathlib.Core.Bool.{Bool, true, false}
 use mathlib.Core.List.{List, [], _∷_}
-use Prim.Native.Nat.{ℕ, _+_, _≤_, _%_}
+use Prim.Native.Nat.{ℕ, _+_, _≤_}
 use native.Mathlib.Omega.{arith}
-use lib.Dec.{eqb}
-use lib.ListN.{length}
 use Rattle.layout.specs.Pick.{pick}
-use Rattle.layout.specs.Text.{bytes}
 use Rattle.rules.specs.Fields.{isDigit}
 use Rattle.rules.proofs.TestLaws.{pick-le}
 use Rattle.field.specs.declared.bytes.Field.{Field}
-use Rattle.field.specs.Streaming.{longer, wrongWith, digitWith, matches, textWith, commaFits, decimalWith, isPlain, withByte, fieldAfter}
+use Rattle.field.specs.Streaming.{longer, wrongWith, digitWith, matches, textWith, commaFits, decimalWith, withByte, fieldAfter}
+use Rattle.field.proofs.LengthLaws.{by-class}
 
 -- what one more byte makes of a field
 data Grown (f : Field) : Field → Type 0 where
@@ -42,14 +40,7 @@ module _ (f : Field) where
     text-grown text = marked (matches text (f .length) b) _
 
     byte-grown : (kind : ℕ) → Grown f (withByte kind f b)
-    unfolding withByte
-    byte-grown kind =
-        let class = kind % 16 in
-        pick-grown (isPlain class) _ _ (left _)
-        (pick-grown (eqb class 1) _ _ (left _)
-        (pick-grown (eqb class 5) _ _ decimal-grown
-        (pick-grown (eqb class 7) _ _ (text-grown (bytes "LFPD"))
-        (pick-grown (eqb class 8) _ _ (text-grown (bytes "Brasil")) digit-grown))))
+    byte-grown kind = by-class (Grown f) kind f b (left _) (left _) decimal-grown text-grown digit-grown
 
 grown-length : {f g : Field} → Grown f g → g .length ≡ f .length + 1
 grown-length (grown w v h) = refl

@@ -11,7 +11,8 @@ use lib.ListN.{getD, set}
 use lib.Seq.{getD-set-other}
 use borrow.Author.Tests.{le-leb, lt-leb, leb-true, leb-false, ltb-true}
 use Rattle.layout.specs.Pick.{pick}
-use Rattle.layout.specs.Rows.{none, rowCount, parent, isClosing, rowOfCode}
+use Rattle.layout.specs.Rows.{none, rowCount, parent, isClosing, rowOfCode, mostFields}
+use Rattle.layout.specs.Packed.{mostKind}
 use Rattle.rules.specs.Rules.{byteLimit}
 use Rattle.rules.proofs.TestLaws.{and-left, and-right, pick-le}
 use Rattle.field.specs.Streaming.{cap}
@@ -63,8 +64,8 @@ unfolding lineRanged
 line-fit h e =
     let a = leb (h .bars) (h .bytes) in
     let b = leb (h .row) rowCount in
-    let c = leb (h .fields) 30 in
-    let d = leb (h .kind) 1048591 in
+    let c = leb (h .fields) mostFields in
+    let d = leb (h .kind) mostKind in
     let l = leb (h .field .length) (h .bytes) in
     let w = leb (h .field .wrong) 1 in
     let v = leb (h .field .value) cap in
@@ -83,7 +84,7 @@ line-fit h e =
 pub fit-of : (h : Hot) → hotRanged h ≡ true → HotFit h
 unfolding hotRanged
 fit-of h e =
-    let a = leb (h .bytes) 4294967296 in
+    let a = leb (h .bytes) (byteLimit + 1) in
     let b = leb (h .lines) (h .bytes) in
     let c = leb (h .last) rowCount in
     let d = leb (h .since) (h .bytes) in

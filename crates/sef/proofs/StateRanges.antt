@@ -2,20 +2,21 @@
 use mathlib.Core.Path.{_≡_}
 use mathlib.Core.Bool.{Bool, true}
 use mathlib.Core.List.{List, [], _∷_}
-use Prim.Native.Nat.{ℕ, suc, _≤_}
+use Prim.Native.Nat.{ℕ, suc, _+_, _≤_}
 use native.Mathlib.Omega.{arith}
 use lib.Dec.{eqb, ltb}
 use lib.ListN.{length}
 use borrow.Author.Tests.{le-leb}
 use Rattle.layout.specs.Text.{codeNumber}
-use Rattle.layout.specs.Rows.{rowCount, none, fields, rowOfCode, isOpening}
+use Rattle.layout.specs.Rows.{rowCount, none, fields, mostFields, rowOfCode, isOpening}
 use Rattle.layout.specs.Kinds.{kind}
-use Rattle.layout.specs.Packed.{kindNumber}
+use Rattle.layout.specs.Packed.{kindNumber, mostKind}
 use Rattle.rules.specs.Bytes.{lines, lineAtHand, rowOf, rowOfWord, rows, rowAtHand, bars, word, field}
 use Rattle.rules.specs.Order.{last}
 use Rattle.rules.specs.Counts.{linesOfRow, countsOfRows}
 use Rattle.layout.specs.Lists.{tabulate}
 use Rattle.rules.specs.Fields.{isText}
+use Rattle.rules.specs.Rules.{byteLimit}
 use Rattle.rules.proofs.TestLaws.{pick-le}
 use Rattle.rules.proofs.Stood.{Stood}
 use Rattle.layout.proofs.TabulateLaws.{tabulate-at}
@@ -33,8 +34,8 @@ use Rattle.line.proofs.HotOf.{lineSays, lastSays, says}
 use Rattle.sef.proofs.FieldRanges.{word-wrong}
 use Rattle.sef.proofs.RangeLaws.{within-all}
 use Rattle.sef.proofs.ByteBounds.{OfBytes, word-bytes, word-value}
-use Rattle.layout.proofs.RowLaws.{mostFields, fields-most}
-use Rattle.sef.proofs.TableRanges.{mostKind, kind-most}
+use Rattle.layout.proofs.RowLaws.{fields-most}
+use Rattle.layout.proofs.KindLaws.{kind-most}
 
 -- the state's hot part for the bytes received, with m bytes judged
 abbrev pub hotWith : List ℕ → ℕ → Hot
@@ -87,7 +88,7 @@ lines-le k (r ∷ rs) = let h = lines-le k rs in pick-le (eqb r k) _ _ (suc (len
 within-rows : (m : ℕ) (f : ℕ → ℕ) → ((k : ℕ) → f k ≤ m) → withinTo m (tabulate rowCount f) rowCount ≡ true
 within-rows m f h = within-all m (tabulate rowCount f) rowCount (λ k l. rw (tabulate-at rowCount f k 0 l) (h k))
 
-module _ (seen : List ℕ) (s : Sound seen) (bytes : OfBytes seen) (m : ℕ) (all : length seen ≤ m) (most : m ≤ 4294967296) where
+module _ (seen : List ℕ) (s : Sound seen) (bytes : OfBytes seen) (m : ℕ) (all : length seen ≤ m) (most : m ≤ byteLimit + 1) where
   rows-le : length (rows seen) ≤ m
   rows-le = omega (arith, rows-length seen, bars-lines seen)
 
@@ -122,7 +123,7 @@ module _ (seen : List ℕ) (s : Sound seen) (bytes : OfBytes seen) (m : ℕ) (al
   unfolding hotRanged
   hot-ranged =
       rw (
-        le-leb m 4294967296 most,
+        le-leb m (byteLimit + 1) most,
         le-leb (length (lines seen)) m (omega (arith, bars-lines seen)),
         le-leb (last (rows seen)) rowCount (last-le (rows seen) (s .stood)),
         le-leb (since (rows seen)) m (omega (arith, since-le (rows seen), rows-le)),

@@ -5,8 +5,10 @@ use Prim.Native.Nat.{ℕ, zero, suc, _+_, _≤_, _<_}
 use lib.Dec.{eqb, leb, ltb}
 use lib.ListN.{length, getD, set, drop, replicate}
 use Rattle.layout.specs.Pick.{pick}
-use Rattle.layout.specs.Rows.{rowCount, none, row9999}
+use Rattle.layout.specs.Rows.{rowCount, none, row9999, mostFields}
+use Rattle.layout.specs.Packed.{mostKind}
 use Rattle.rules.specs.Bytes.{LF}
+use Rattle.rules.specs.Rules.{byteLimit}
 use Rattle.field.specs.Streaming.{cap, emptyField}
 use Rattle.line.specs.Machine.{HotFit, entryOf, usedOf, stepOf}
 use Rattle.line.specs.declared.hot.Hot.{Hot}
@@ -91,12 +93,12 @@ withinTo m xs (suc k) = leb (getD xs k 0) m && withinTo m xs k
 
 unfoldable pub lineRanged : Hot → Bool
 lineRanged h =
-    leb (h .bars) (h .bytes) && leb (h .row) rowCount && leb (h .fields) 30 && leb (h .kind) 1048591
+    leb (h .bars) (h .bytes) && leb (h .row) rowCount && leb (h .fields) mostFields && leb (h .kind) mostKind
     && leb (h .field .length) (h .bytes) && leb (h .field .wrong) 1 && leb (h .field .value) cap
 
 unfoldable pub hotRanged : Hot → Bool
 hotRanged h =
-    leb (h .bytes) 4294967296 && leb (h .lines) (h .bytes) && leb (h .last) rowCount && leb (h .since) (h .bytes)
+    leb (h .bytes) (byteLimit + 1) && leb (h .lines) (h .bytes) && leb (h .last) rowCount && leb (h .since) (h .bytes)
     && leb (h .says) 2 && lineRanged h
 
 unfoldable pub rangedOf : State → Bool

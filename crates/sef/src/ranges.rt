@@ -3,20 +3,18 @@ ghost use mathlib.Core.Path.{_≡_};
 ghost use Rattle.layout.specs.Rows.{rowCount};
 ghost use Rattle.sef.specs.Calls.{withinTo, lineRanged, hotRanged, rangedOf};
 use crate::state::State;
+use layout::kinds::KIND_MOST;
+use layout::rows::FIELDS_MOST;
 use layout::rows::ROWS;
 use line::hot::Hot;
 
-const BYTES_MOST: u64 = 4294967296;
+const BYTES_MOST: u64 = rules::BYTE_LIMIT + 1;
 
-const VALUE_MOST: u64 = 4294967296;
+const VALUE_MOST: u64 = field::bytes::CAP;
 
 const SAYS_MOST: u64 = 2;
 
 const WRONG_MOST: u64 = 1;
-
-const FIELDS_MOST: u64 = 30;
-
-const KIND_MOST: u64 = 1048591;
 
 const RULE_MOST: u64 = 16;
 
