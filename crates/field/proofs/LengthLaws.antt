@@ -9,13 +9,13 @@ use native.Mathlib.Omega.{arith}
 use lib.Dec.{eqb}
 use lib.ListN.{length}
 use Rattle.layout.specs.Pick.{pick}
-use Rattle.layout.specs.Text.{bytes, codeNumber}
+use Rattle.layout.specs.Text.{codeNumber}
 use Rattle.layout.specs.Kinds.{codeField}
-use Rattle.layout.specs.Packed.{kindNumber, codeClass, decimalsClass, lfpdClass, brasilClass, sizeUnit}
+use Rattle.layout.specs.Packed.{kindNumber, codeClass, decimalsClass, sizeUnit}
 use Rattle.rules.specs.Fields.{isDigit}
 use Rattle.rules.specs.Rules.{byteLimit}
 use Rattle.field.specs.declared.bytes.Field.{Field}
-use Rattle.field.specs.Streaming.{FieldFit, cap, emptyField, longer, codeWith, valueWith, digitWith, textWith, decimalsWith, decimalWith, isPlain, withByte, fieldAfter}
+use Rattle.field.specs.Streaming.{FieldFit, cap, emptyField, longer, codeWith, valueWith, digitWith, textWith, decimalsWith, decimalWith, isPlain, isFixedClass, fixedText, withByte, fieldAfter}
 
 -- what holds of both choices holds of the choice
 either : {A : Type 0} (P : A → Type 0) (t : Bool) {a b : A} → P a → P b → P (pick t a b)
@@ -37,7 +37,7 @@ module _ (P : Field → Type 0) (kind : ℕ) (f : Field) (b : ℕ) where
       either P (isPlain class) plain
       (either P (eqb class codeClass) code
       (either P (eqb class decimalsClass) decimal
-      (either P (eqb class lfpdClass) (text (bytes "LFPD")) (either P (eqb class brasilClass) (text (bytes "Brasil")) digit))))
+      (either P (isFixedClass class) (text (fixedText class)) digit)))
 
 one-longer : (kind : ℕ) (f : Field) (b : ℕ) → withByte kind f b .length ≡ f .length + 1
 unfolding textWith decimalWith digitWith

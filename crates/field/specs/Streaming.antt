@@ -62,14 +62,20 @@ decimalWith f b =
 unfoldable pub isPlain : ℕ → Bool
 isPlain class = eqb class freeClass || eqb class cClass
 
+-- the classes of the fixed texts, and the text of each
+abbrev pub isFixedClass : ℕ → Bool
+isFixedClass class = eqb class lfpdClass || eqb class brasilClass
+
+abbrev pub fixedText : ℕ → List ℕ
+fixedText class = pick (eqb class lfpdClass) (bytes "LFPD") (bytes "Brasil")
+
 unfoldable pub withByte : ℕ → Field → ℕ → Field
 withByte kind f b =
     let class = kind % sizeUnit in
     pick (isPlain class) (longer f (f .wrong) (f .value))
     (pick (eqb class codeClass) (codeWith f b)
     (pick (eqb class decimalsClass) (decimalWith f b)
-    (pick (eqb class lfpdClass) (textWith (bytes "LFPD") f b)
-    (pick (eqb class brasilClass) (textWith (bytes "Brasil") f b) (digitWith f b)))))
+    (pick (isFixedClass class) (textWith (fixedText class) f b) (digitWith f b))))
 
 -- the field of a kind after the bytes of a word, the latest first
 unfoldable pub fieldAfter : ℕ → List ℕ → Field
@@ -107,7 +113,7 @@ textFault class size f =
     pick (ltb size (f .length)) 11 (pick (eqb class cClass || isFixed f size) 0 12)
 
 unfoldable pub isTextClass : ℕ → Bool
-isTextClass class = eqb class cClass || eqb class lfpdClass || eqb class brasilClass
+isTextClass class = eqb class cClass || isFixedClass class
 
 unfoldable pub faultOf : ℕ → Field → ℕ → ℕ
 faultOf kind f due =

@@ -1,9 +1,8 @@
 // What is kept of a field's bytes.
 ghost use mathlib.Core.Path.{_≡_};
 ghost use Prim.Native.Nat.{_≤_};
-ghost use Rattle.layout.specs.Text.{bytes};
 ghost use Rattle.rules.specs.Fields.{isDigit};
-ghost use Rattle.field.specs.Streaming.{FieldFit, cap, emptyField, codeWith, valueWith, digitWith, matches, textWith, commaFits, decimalsWith, decimalWith, isPlain, withByte};
+ghost use Rattle.field.specs.Streaming.{FieldFit, cap, emptyField, codeWith, valueWith, digitWith, matches, textWith, commaFits, decimalsWith, decimalWith, isPlain, isFixedClass, fixedText, withByte};
 
 // The classes of kinds: a kind's number is its class plus CLASSES times its size.
 pub const CLASSES: u64 = layout::kinds::SIZE as u64;
@@ -129,18 +128,14 @@ fn text_with(text: &[u8], f: Field, b: u8) -> Field
     }
 }
 
-// Each fixed text is mentioned in a function of its own: it is stored where that function starts, and not for every byte.
-fn lfpd_with(f: Field, b: u8) -> Field
+// The fixed texts: in a function of their own, so that they are stored where it starts, and not for every byte.
+fn fixed_with(class: u64, f: Field, b: u8) -> Field
     requires { ⌜ FieldFit f ⌝ }
-    ensures { λ r. ⌜ r ≡ textWith (bytes "LFPD") f b ⌝ }
+    ensures { λ r. ⌜ r ≡ textWith (fixedText class) f b ⌝ }
 {
-    text_with(b"LFPD", f, b)
-}
-
-fn brasil_with(f: Field, b: u8) -> Field
-    requires { ⌜ FieldFit f ⌝ }
-    ensures { λ r. ⌜ r ≡ textWith (bytes "Brasil") f b ⌝ }
-{
+    if class == LFPD {
+        return text_with(b"LFPD", f, b);
+    }
     text_with(b"Brasil", f, b)
 }
 
@@ -200,6 +195,13 @@ fn is_plain(class: u64) -> bool
     class == FREE || class == TEXT
 }
 
+// Of a fixed text each byte is asked.
+pub fn is_fixed_class(class: u64) -> bool
+    ensures { λ r. ⌜ r ≡ isFixedClass class ⌝ }
+{
+    class == LFPD || class == BRASIL
+}
+
 // One more byte of a field of this kind.
 pub fn with_byte(kind: u64, f: Field, b: u8) -> Field
     requires { ⌜ FieldFit f ⌝ }
@@ -219,11 +221,8 @@ pub fn with_byte(kind: u64, f: Field, b: u8) -> Field
     if class == DECIMALS {
         return decimal_with(f, b);
     }
-    if class == LFPD {
-        return lfpd_with(f, b);
-    }
-    if class == BRASIL {
-        return brasil_with(f, b);
+    if is_fixed_class(class) {
+        return fixed_with(class, f, b);
     }
     digit_with(f, b)
 }

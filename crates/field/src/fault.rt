@@ -1,16 +1,15 @@
 // What the bar after a field finds: the broken rule's number, 0 where none is broken.
 ghost use mathlib.Core.Path.{_≡_};
 ghost use Rattle.field.specs.Streaming.{emptyFault, rightForm, isExact, rightSize, contentFault, numberFault, isFixed, textFault, isTextClass, faultOf};
-use crate::bytes::BRASIL;
 use crate::bytes::CLASSES;
 use crate::bytes::COUNT;
 use crate::bytes::DATE;
 use crate::bytes::DECIMALS;
 use crate::bytes::DIGITS;
 use crate::bytes::Field;
-use crate::bytes::LFPD;
 use crate::bytes::OPENS;
 use crate::bytes::TEXT;
+use crate::bytes::is_fixed_class;
 use crate::date::is_date;
 
 const WRONG_CHARACTERS: u64 = 10;
@@ -124,10 +123,7 @@ fn text_fault(class: u64, size: u64, f: Field) -> u64
 fn is_text_class(class: u64) -> bool
     ensures { λ r. ⌜ r ≡ isTextClass class ⌝ }
 {
-    if class == TEXT {
-        return true;
-    }
-    class == LFPD || class == BRASIL
+    class == TEXT || is_fixed_class(class)
 }
 
 // The bar after a field of this kind; `due` is what a count must state.

@@ -28,26 +28,22 @@ returns-3 : tie.Need-returns-3
 unfolding withByte
 returns-3 c = search called depth 12
 
-lfpd-with-requires : tie.Need-lfpd-with-requires
-lfpd-with-requires c κs = search needs
+is-fixed-class-requires : tie.Need-is-fixed-class-requires
+is-fixed-class-requires c κs = search needs
+
+fixed-with-requires : tie.Need-fixed-with-requires
+fixed-with-requires c κs = search needs
 
 returns-4 : tie.Need-returns-4
 unfolding withByte
 returns-4 c = search called depth 12
 
-brasil-with-requires : tie.Need-brasil-with-requires
-brasil-with-requires c κs = search needs
+digit-with-requires : tie.Need-digit-with-requires
+digit-with-requires c κs = search needs
 
 returns-5 : tie.Need-returns-5
 unfolding withByte
 returns-5 c = search called depth 12
-
-digit-with-requires : tie.Need-digit-with-requires
-digit-with-requires c κs = search needs
-
-returns-6 : tie.Need-returns-6
-unfolding withByte
-returns-6 c = search called depth 12
 
 pub with-byte-spec : {M : Type 1} → statement M
 with-byte-spec =
@@ -60,9 +56,8 @@ with-byte-spec =
     returns-2
     decimal-with-requires
     returns-3
-    lfpd-with-requires
+    is-fixed-class-requires
+    fixed-with-requires
     returns-4
-    brasil-with-requires
-    returns-5
     digit-with-requires
-    returns-6)
+    returns-5)
