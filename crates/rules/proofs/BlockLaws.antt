@@ -1,9 +1,11 @@
--- The lines of a block are those since the last closing, and what all closings must state adds up to the number of all lines.
+-- The lines of a block are those since the last closing; after its closing none comes but 9999; and what all closings must state
+-- adds up to the number of all lines.
 use mathlib.Core.Path.{_≡_, _∙_, refl, sym, ap}
 use mathlib.Core.Bool.{Bool, true, false, _&&_, and-false, true≢false}
 use mathlib.Core.List.{List, [], _∷_}
 use Prim.Native.Nat.{ℕ, suc, _+_, _<_, _≤_}
 use native.Mathlib.Omega.{arith}
+use native.Mathlib.Decide.{ℕ-discrete}
 use lib.Dec.{eqb}
 use lib.ListN.{length}
 use borrow.Author.Tests.{eq-eqb, ne-eqb, eqb-true}
@@ -81,6 +83,26 @@ block-lines (x ∷ before) s r row can other =
     go (goes-on c z e) ih =
         block-here x before (block r) e ∙ ap suc (ap (λ b. linesOfBlock b before) (sym e) ∙ ih z) ∙ sym (since-on x before c)
     go (ends z e) ih = absurd (other z)
+
+-- block x is over: the last line is of a later block, or the closing of this one
+abbrev pub Over : ℕ → List ℕ → Type 0
+Over x before = (x ≤ block (last before)) × (isClosing (last before) ≡ false → x < block (last before))
+
+-- then no line of it comes any more, but 9999
+pub over-next : (x r : ℕ) (before : List ℕ) → Over x before → (before ≡ [] → ⊥) → (r ≡ row9999 → ⊥) → Follows r before
+    → x < block r
+over-next x r before o some other (first z e) = absurd (some e)
+over-next x r before o some other (starts p c l) = omega arith
+over-next x r before o some other (goes-on c z e) = omega (arith, o .1 c)
+over-next x r before o some other (ends z e) = absurd (other z)
+
+pub block-with-9999 : (x : ℕ) (before : List ℕ)
+    → linesOfBlock x (row9999 ∷ before) ≡ linesOfBlock x before + pick (eqb x (block row9999)) 1 0
+block-with-9999 x before = go (ℕ-discrete (block row9999) x)
+  where
+    go : Dec (block row9999 ≡ x) → linesOfBlock x (row9999 ∷ before) ≡ linesOfBlock x before + pick (eqb x (block row9999)) 1 0
+    go (yes e) = block-here row9999 before x e ∙ rw (eq-eqb x (block row9999) (sym e)) (omega arith)
+    go (no d) = block-past row9999 before x d ∙ rw (ne-eqb x (block row9999) (λ e. d (sym e))) (omega arith)
 
 closing-other : (r : ℕ) → isClosing r ≡ true → r ≡ row9999 → ⊥
 closing-other r c z = true≢false (sym c ∙ ap isClosing z ∙ closing-9999)
@@ -167,7 +189,7 @@ claimed (r ∷ before) s other =
     let o = still-open before r (s .2) (follows before (s .3) r (s .2) (s .0)) other in
     claimed-line r before (block-lines before (s .3) r (s .2) (s .0) other) (o .1) (claimed before (s .3) (o .0))
 
-follows-9990 : (before : List ℕ) → canStand row9999 before ≡ true → last before ≡ row9990
+pub follows-9990 : (before : List ℕ) → canStand row9999 before ≡ true → last before ≡ row9990
 unfolding endsFile
 follows-9990 before can = eqb-true (last before) row9990 (sym (stand-last before) ∙ can)
 

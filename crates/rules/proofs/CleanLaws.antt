@@ -168,3 +168,9 @@ accepted-clean seen l n e =
   where
     never : {X : Type 0} {r line f k m : ℕ} → refused r line f k m ≡ accepted l n → X
     never q = absurd (let z : _≡_ {A = ℕ} 0 1 = cc in omega arith)
+
+pub accepted-numbers : (seen : List ℕ) (l n : ℕ) → finishVerdict seen ≡ accepted l n → (length (lines seen) ≡ l) × (length seen ≡ n)
+accepted-numbers seen l n e =
+    let c = accepted-clean seen l n e in
+    let q : accepted (length (lines seen)) (length seen) ≡ accepted l n = rw (finish-clean seen (c .0), c .1) at e in
+    (cc, cc)

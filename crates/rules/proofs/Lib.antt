@@ -7,6 +7,7 @@ pub mod StandLaws
 pub mod OpenLaws
 pub mod FollowLaws
 pub mod BlockLaws
+pub mod FrameLaws
 pub mod ByteLaws
 pub mod FaultLaws
 pub mod CleanLaws

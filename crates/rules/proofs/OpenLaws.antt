@@ -94,7 +94,7 @@ among-shallower p n (x ∷ xs) = go (decLt (level x) n) (ℕ-discrete x p) (amon
         rw (le-ltb (level x) n (omega arith), f) (rw f at ih)
     go (no l) (no e) ih = rw (le-ltb (level x) n (omega arith), ne-eqb x p e) ih
 
-open-line : (p r : ℕ) (before : List ℕ) → isOpen p (r ∷ before) ≡ (eqb r p || (ltb (level p) (level r) && isOpen p before))
+pub open-line : (p r : ℕ) (before : List ℕ) → isOpen p (r ∷ before) ≡ (eqb r p || (ltb (level p) (level r) && isOpen p before))
 unfolding isOpen openRows among
 open-line p r before = rw (among-shallower p (level r) (openRows before))
 

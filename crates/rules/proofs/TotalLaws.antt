@@ -1,28 +1,34 @@
--- Demand 3, of accepted files: the 98 counts add up to the lines, 9999 states the lines, and the closings' counts add up to them.
+-- Demand 3, of accepted files: the 98 counts add up to the lines, 9999 states the lines, the closings state the lines of their
+-- blocks, which add up to all lines; and the first two lines and blocks 0 and 9 are there.
 use mathlib.Core.Path.{_≡_, _∙_, refl, sym, ap}
 use mathlib.Core.Bool.{Bool, true, false}
 use mathlib.Core.List.{List, [], _∷_, map, reverse}
+use mathlib.Core.Logic.{inl, inr}
 use Prim.Native.Nat.{ℕ, suc, _+_}
 use native.Mathlib.Omega.{arith}
 use lib.Dec.{eqb}
 use lib.ListN.{length, length-map}
-use borrow.Author.Tests.{eqb-true}
 use Rattle.layout.specs.Pick.{pick}
-use Rattle.layout.specs.Rows.{row9999, isClosing}
-use Rattle.rules.specs.Bytes.{lines, rowOf, rows, field}
-use Rattle.rules.specs.Counts.{due}
-use Rattle.rules.specs.Fields.{value}
-use Rattle.rules.specs.Rules.{finished, isLastLine}
+use Rattle.layout.specs.Rows.{block, isClosing, row0000, row9999}
+use Rattle.rules.specs.Bytes.{lines, rowOf, rows}
+use Rattle.rules.specs.Order.{last}
+use Rattle.rules.specs.Counts.{linesOfBlock, due}
+use Rattle.rules.specs.Rules.{finished}
 use Rattle.rules.specs.Verdict.{accepted, finishVerdict, finalOf, countsOf}
-use Rattle.rules.specs.Totals.{sum, statedBy, closingsState, linesOf, lastLine}
+use Rattle.rules.specs.Totals.{sum, blockCount, statedBy, closingsState}
+use Rattle.rules.specs.Totals.{linesOf, lastLine, rowsOf, row0001, IsAmong, IsThere}
+use Rattle.layout.proofs.RoleLaws.{closing-9999}
 use Rattle.rules.proofs.TestLaws.{both}
 use Rattle.rules.proofs.Stood.{Stood}
 use Rattle.rules.proofs.AllRows.{stood-rows}
-use Rattle.rules.proofs.CountLaws.{counts-sum}
-use Rattle.rules.proofs.BlockLaws.{claims, claims-total, due-9999}
+use Rattle.rules.proofs.CountLaws.{counts-sum, counts-block}
+use Rattle.rules.proofs.BlockLaws.{Over, over-next, block-here, block-past, block-with-9999}
+use Rattle.rules.proofs.BlockLaws.{due-closing, due-9999, claims, claims-total}
 use Rattle.rules.proofs.ByteLaws.{rows-length}
-use Rattle.rules.proofs.CleanLaws.{Clean, counts-clean, finish-clean, accepted-clean}
+use Rattle.rules.proofs.CleanLaws.{Clean, counts-clean, accepted-clean, accepted-numbers}
 use Rattle.rules.proofs.SoundLaws.{sound}
+use Rattle.rules.proofs.FollowLaws.{follows, none-after-9999}
+use Rattle.rules.proofs.FrameLaws.{Ended, by-9999, ended-by, last-is, first-two, some-lines, there, there-0, there-9}
 use Rattle.rules.proofs.StatedLaws.{Stated, stated, closing-states, states-9999}
 
 -- each closing states what it must
@@ -37,34 +43,54 @@ closings-claim (line ∷ before) s = go (isClosing (rowOf line)) refl (closings-
     go true c ih = rw (ih, s .0 (closing-states (rowOf line) c))
     go false c ih = ih
 
--- lines that end with 9999
-module _ (line : List ℕ) (before : List (List ℕ)) (e : rowOf line ≡ row9999) where
-  last-states : Stated (line ∷ before) → statedBy line ≡ suc (length before)
-  last-states s =
-      let q : value (field 2 line) ≡ due row9999 (map rowOf before) = rw e at (s .0) states-9999 in
-      q ∙ due-9999 (map rowOf before) ∙ ap suc (length-map before rowOf)
+-- A closing states the lines of its block among all lines, and 9999 where that is still to come.
+abbrev ClosingStates : List ℕ → List (List ℕ) → Type 0
+ClosingStates line ls =
+    let x = block (rowOf line) in
+    (statedBy line ≡ linesOfBlock x (map rowOf ls) + pick (eqb x (block row9999)) 1 0) × Over x (map rowOf ls)
 
-  closings-total : Stood (map rowOf (line ∷ before)) → Stated (line ∷ before) → closingsState (line ∷ before) ≡ suc (length before)
-  closings-total s t =
-      closings-claim (line ∷ before) t ∙ ap (λ r. claims (r ∷ map rowOf before)) e
-      ∙ claims-total (map rowOf before) (rw e at s)
-      ∙ ap suc (length-map before rowOf)
+closing-here : (line : List ℕ) (before : List (List ℕ)) → Stated (line ∷ before) → isClosing (rowOf line) ≡ true
+    → ClosingStates line (line ∷ before)
+unfolding last
+closing-here line before t c =
+    let r = rowOf line in
+    let q = t .0 (closing-states r c) ∙ due-closing r (map rowOf before) c in
+    rw (block-here r (map rowOf before) (block r) refl) (q, (omega arith, λ f. both c f))
 
--- the last line of a file that has ended
-ends-9999 : (ls : List (List ℕ)) → isLastLine ls ≡ true → rowOf (lastLine ls) ≡ row9999
-unfolding isLastLine
-ends-9999 [] e = both e refl
-ends-9999 (line ∷ before) e = eqb-true (rowOf line) row9999 e
+closing-later : (ls : List (List ℕ)) → Stood (map rowOf ls) → Stated ls → (last (map rowOf ls) ≡ row9999 → ⊥)
+    → (line : List ℕ) → IsAmong line ls → isClosing (rowOf line) ≡ true → ClosingStates line ls
+unfolding last
+closing-later [] s t other line m c = absurd m
+closing-later (l ∷ before) s t other line (inl e) c = rw e (closing-here l before t (rw e at c))
+closing-later (l ∷ before) s t other line (inr m) c =
+    let x = block (rowOf line) in
+    let rs = map rowOf before in
+    let ih = closing-later before (s .3) (t .1) (λ z. none-after-9999 rs (s .3) z (rowOf l) (s .2) (s .0)) line m c in
+    let h = over-next x (rowOf l) rs (ih .1) (some-lines before line m) other (follows rs (s .3) (rowOf l) (s .2) (s .0)) in
+    rw (block-past (rowOf l) rs x (λ e. omega arith)) (ih .0, (omega arith, λ f. h))
 
-last-total : (ls : List (List ℕ)) → isLastLine ls ≡ true → Stated ls → statedBy (lastLine ls) ≡ length ls
-unfolding isLastLine
-last-total [] e s = both e refl
-last-total (line ∷ before) e s = last-states line before (eqb-true (rowOf line) row9999 e) s
+-- Lines that end with 9999.
+last-total : (ls : List (List ℕ)) → Ended ls → Stated ls → statedBy (lastLine ls) ≡ length ls
+last-total ls (by-9999 {line = line} {before = before} e) s =
+    let q : statedBy line ≡ due row9999 (map rowOf before) = rw e at (s .0) states-9999 in
+    q ∙ due-9999 (map rowOf before) ∙ ap suc (length-map before rowOf)
 
-closings-length : (ls : List (List ℕ)) → isLastLine ls ≡ true → Stood (map rowOf ls) → Stated ls → closingsState ls ≡ length ls
-unfolding isLastLine
-closings-length [] e s t = both e refl
-closings-length (line ∷ before) e s t = closings-total line before (eqb-true (rowOf line) row9999 e) s t
+closings-total : (ls : List (List ℕ)) → Ended ls → Stood (map rowOf ls) → Stated ls → closingsState ls ≡ length ls
+closings-total ls (by-9999 {line = line} {before = before} e) s t =
+    closings-claim (line ∷ before) t ∙ ap (λ r. claims (r ∷ map rowOf before)) e
+    ∙ claims-total (map rowOf before) (rw e at s)
+    ∙ ap suc (length-map before rowOf)
+
+closing-block : (ls : List (List ℕ)) → Ended ls → Stood (map rowOf ls) → Stated ls
+    → (line : List ℕ) → IsAmong line ls → isClosing (rowOf line) ≡ true
+    → statedBy line ≡ linesOfBlock (block (rowOf line)) (map rowOf ls)
+closing-block ls (by-9999 {line = l} {before = before} e) s t line (inl q) c =
+    both c (ap isClosing (ap rowOf q ∙ e) ∙ closing-9999)
+closing-block ls (by-9999 {line = l} {before = before} e) s t line (inr m) c =
+    let x = block (rowOf line) in
+    let rs = map rowOf before in
+    let p = closing-later before (s .3) (t .1) (λ z. none-after-9999 rs (s .3) z (rowOf l) (s .2) (s .0)) line m c .0 in
+    rw (e, block-with-9999 x rs) p
 
 module _ (file : List ℕ) (l n : ℕ) (answer : finalOf file ≡ accepted l n) where
   abbrev seen : List ℕ
@@ -77,14 +103,12 @@ module _ (file : List ℕ) (l n : ℕ) (answer : finalOf file ≡ accepted l n) 
   clean : Clean seen
   clean = accepted-clean seen l n final .0
 
-  ended : isLastLine (lines seen) ≡ true
+  ended : Ended (lines seen)
   unfolding finished
-  ended = accepted-clean seen l n final .1
+  ended = ended-by (lines seen) (accepted-clean seen l n final .1)
 
   length-lines : length (lines seen) ≡ l
-  length-lines =
-      let e : accepted (length (lines seen)) (length seen) ≡ accepted l n = rw (finish-clean seen clean, accepted-clean seen l n final .1) at final in
-      cc
+  length-lines = accepted-numbers seen l n final .0
 
   stood : Stood (map rowOf (lines seen))
   unfolding rows
@@ -102,11 +126,37 @@ module _ (file : List ℕ) (l n : ℕ) (answer : finalOf file ≡ accepted l n) 
 
   -- its last line is 9999, whose field 2 states this number
   pub accepted-last : rowOf (lastLine (linesOf file)) ≡ row9999
-  accepted-last = ends-9999 (lines seen) ended
+  accepted-last = last-is (lines seen) ended
 
   pub accepted-total : statedBy (lastLine (linesOf file)) ≡ l
   accepted-total = last-total (lines seen) ended states-due ∙ length-lines
 
   -- and the counts that its closing lines state add up to it
   pub accepted-blocks : closingsState (linesOf file) ≡ l
-  accepted-blocks = closings-length (lines seen) ended stood states-due ∙ length-lines
+  accepted-blocks = closings-total (lines seen) ended stood states-due ∙ length-lines
+
+  -- "the block counts add up to its stated total"
+  pub accepted-sum : closingsState (linesOf file) ≡ statedBy (lastLine (linesOf file))
+  accepted-sum = accepted-blocks ∙ sym accepted-total
+
+  -- each of them is the number of its block's lines in the report
+  pub accepted-closing : (line : List ℕ) → IsAmong line (linesOf file) → isClosing (rowOf line) ≡ true
+      → statedBy line ≡ blockCount (block (rowOf line)) (countsOf file)
+  unfolding countsOf rows
+  accepted-closing line m c =
+      let x = block (rowOf line) in
+      closing-block (lines seen) ended stood states-due line m c
+      ∙ sym (ap (blockCount x) (counts-clean seen clean) ∙ counts-block x (rows seen) (stood-rows (rows seen) stood))
+
+  -- "The first line is 0000, the second 0001."
+  pub accepted-first : (rest : List ℕ) × (rowsOf file ≡ row0000 ∷ row0001 ∷ rest)
+  unfolding rows
+  accepted-first = first-two (lines seen) ended stood
+
+  -- "A block runs from its x001 to its x990": each block that has a line
+  pub accepted-there : (line : List ℕ) → IsAmong line (linesOf file) → IsThere (block (rowOf line)) (linesOf file)
+  accepted-there line m = there (lines seen) ended stood line m
+
+  -- "0 and 9 must be there"
+  pub accepted-has-0-and-9 : IsThere (block row0000) (linesOf file) × IsThere (block row9999) (linesOf file)
+  accepted-has-0-and-9 = (there-0 (lines seen) ended stood, there-9 (lines seen) ended stood)
