@@ -16,7 +16,7 @@ use Rattle.rules.specs.Counts.{linesOfBlock, due}
 use Rattle.rules.proofs.Stood.{Stood}
 use Rattle.layout.proofs.RoleLaws.{none-closing, block-last, block-9990, closing-9990, closing-9999}
 use Rattle.rules.proofs.StandLaws.{stand-closing, stand-last}
-use Rattle.rules.proofs.FollowLaws.{Follows, first, starts, goes-on, ends, follows}
+use Rattle.rules.proofs.NextLineLaws.{NextLine, first, starts, goes-on, ends, next-line}
 
 -- the lines since the last closing line
 unfoldable pub since : List ℕ → ℕ
@@ -62,9 +62,9 @@ pub later-block : (before : List ℕ) → Stood before → (b : ℕ) → block (
 unfolding last
 later-block [] s b h = no-lines b
 later-block (r ∷ before) s b h =
-    block-past r before b (λ e. omega arith) ∙ go (follows before (s .3) r (s .2) (s .0)) (later-block before (s .3) b)
+    block-past r before b (λ e. omega arith) ∙ go (next-line before (s .3) r (s .2) (s .0)) (later-block before (s .3) b)
   where
-    go : Follows r before → (block (last before) < b → linesOfBlock b before ≡ 0) → linesOfBlock b before ≡ 0
+    go : NextLine r before → (block (last before) < b → linesOfBlock b before ≡ 0) → linesOfBlock b before ≡ 0
     go (first z e) ih = rw e (no-lines b)
     go (starts o c l) ih = ih (omega arith)
     go (goes-on c z e) ih = ih (omega arith)
@@ -75,9 +75,9 @@ pub block-lines : (before : List ℕ) → Stood before → (r : ℕ) → r < row
 unfolding last
 block-lines [] s r row can other = no-lines (block r) ∙ unfold since in refl
 block-lines (x ∷ before) s r row can other =
-    go (follows (x ∷ before) s r row can) (block-lines before (s .3) x (s .2) (s .0))
+    go (next-line (x ∷ before) s r row can) (block-lines before (s .3) x (s .2) (s .0))
   where
-    go : Follows r (x ∷ before) → ((x ≡ row9999 → ⊥) → linesOfBlock (block x) before ≡ since before) → linesOfBlock (block r) (x ∷ before) ≡ since (x ∷ before)
+    go : NextLine r (x ∷ before) → ((x ≡ row9999 → ⊥) → linesOfBlock (block x) before ≡ since before) → linesOfBlock (block r) (x ∷ before) ≡ since (x ∷ before)
     go (first z e) ih = rw e (no-lines (block r) ∙ unfold since in refl)
     go (starts o c l) ih = later-block (x ∷ before) s (block r) l ∙ sym (since-last (x ∷ before) c)
     go (goes-on c z e) ih =
@@ -89,7 +89,7 @@ abbrev pub Over : ℕ → List ℕ → Type 0
 Over x before = (x ≤ block (last before)) × (isClosing (last before) ≡ false → x < block (last before))
 
 -- then no line of it comes any more, but 9999
-pub over-next : (x r : ℕ) (before : List ℕ) → Over x before → (before ≡ [] → ⊥) → (r ≡ row9999 → ⊥) → Follows r before
+pub over-next : (x r : ℕ) (before : List ℕ) → Over x before → (before ≡ [] → ⊥) → (r ≡ row9999 → ⊥) → NextLine r before
     → x < block r
 over-next x r before o some other (first z e) = absurd (some e)
 over-next x r before o some other (starts p c l) = omega arith
@@ -162,7 +162,7 @@ module _ (r : ℕ) (before : List ℕ) where
 abbrev Open : List ℕ → Type 0
 Open before = (last before ≡ row9999 → ⊥) × (ahead (last before) ≡ 0)
 
-still-open : (before : List ℕ) (r : ℕ) → r < rowCount → Follows r before → (r ≡ row9999 → ⊥) → Open before
+still-open : (before : List ℕ) (r : ℕ) → r < rowCount → NextLine r before → (r ≡ row9999 → ⊥) → Open before
 still-open before r row (first z e) other = rw e (unfold last in (λ q. omega arith, ahead-open none none-closing))
 still-open before r row (starts o c l) other =
     (closing-other (last before) c, ahead-early (last before) (omega (arith, block-last r row)))
@@ -186,7 +186,7 @@ claimed : (before : List ℕ) → Stood before → (last before ≡ row9999 → 
 unfolding last
 claimed [] s other = rw (ahead-open none none-closing) (unfold claims since in refl)
 claimed (r ∷ before) s other =
-    let o = still-open before r (s .2) (follows before (s .3) r (s .2) (s .0)) other in
+    let o = still-open before r (s .2) (next-line before (s .3) r (s .2) (s .0)) other in
     claimed-line r before (block-lines before (s .3) r (s .2) (s .0) other) (o .1) (claimed before (s .3) (o .0))
 
 pub follows-9990 : (before : List ℕ) → canStand row9999 before ≡ true → last before ≡ row9990

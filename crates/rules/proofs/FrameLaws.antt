@@ -23,7 +23,7 @@ use Rattle.rules.proofs.Stood.{Stood}
 use Rattle.rules.proofs.StandLaws.{stand-closing}
 use Rattle.rules.proofs.OpenLaws.{open-line}
 use Rattle.rules.proofs.BlockLaws.{follows-9990}
-use Rattle.rules.proofs.FollowLaws.{Follows, first, starts, goes-on, ends, follows}
+use Rattle.rules.proofs.NextLineLaws.{NextLine, first, starts, goes-on, ends, next-line}
 
 -- The first two rows: what can stand first, and right after 0000.
 abbrev standsFirst : ℕ → Bool
@@ -92,13 +92,13 @@ unfolding last
 has-closing [] s line m = absurd m
 has-closing (l ∷ before) s line (inl e) = inl (ap (λ k. block (rowOf k)) e)
 has-closing (l ∷ before) s line (inr m) =
-    ⊎-elim (go (follows (map rowOf before) (s .3) (rowOf l) (s .2) (s .0))) (λ h. inr (closing-on x l before h))
+    ⊎-elim (go (next-line (map rowOf before) (s .3) (rowOf l) (s .2) (s .0))) (λ h. inr (closing-on x l before h))
     (has-closing before (s .3) line m)
   where
     x : ℕ
     x = block (rowOf line)
 
-    go : Follows (rowOf l) (map rowOf before) → x ≡ block (last (map rowOf before))
+    go : NextLine (rowOf l) (map rowOf before) → x ≡ block (last (map rowOf before))
         → (x ≡ block (rowOf l)) ⊎ HasClosing x (l ∷ before)
     go (first z b) e = absurd (some-lines before line m b)
     go (starts o c h) e = inr (closing-on x l before (last-closing before x c (sym e)))

@@ -5,7 +5,7 @@ pub mod CountLaws
 pub mod OccurrenceLaws
 pub mod StandLaws
 pub mod OpenLaws
-pub mod FollowLaws
+pub mod NextLineLaws
 pub mod BlockLaws
 pub mod FrameLaws
 pub mod ByteLaws

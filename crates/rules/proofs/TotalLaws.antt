@@ -27,7 +27,7 @@ use Rattle.rules.proofs.BlockLaws.{due-closing, due-9999, claims, claim
 use Rattle.rules.proofs.ByteLaws.{rows-length}
 use Rattle.rules.proofs.CleanLaws.{Clean, counts-clean, accepted-clean, accepted-numbers}
 use Rattle.rules.proofs.SoundLaws.{sound}
-use Rattle.rules.proofs.FollowLaws.{follows, none-after-9999}
+use Rattle.rules.proofs.NextLineLaws.{next-line, none-after-9999}
 use Rattle.rules.proofs.FrameLaws.{Ended, by-9999, ended-by, last-is, first-two, some-lines, there, there-0, there-9}
 use Rattle.rules.proofs.StatedLaws.{Stated, stated, closing-states, states-9999}
 
@@ -66,7 +66,7 @@ closing-later (l ∷ before) s t other line (inr m) c =
     let x = block (rowOf line) in
     let rs = map rowOf before in
     let ih = closing-later before (s .3) (t .1) (λ z. none-after-9999 rs (s .3) z (rowOf l) (s .2) (s .0)) line m c in
-    let h = over-next x (rowOf l) rs (ih .1) (some-lines before line m) other (follows rs (s .3) (rowOf l) (s .2) (s .0)) in
+    let h = over-next x (rowOf l) rs (ih .1) (some-lines before line m) other (next-line rs (s .3) (rowOf l) (s .2) (s .0)) in
     rw (block-past (rowOf l) rs x (λ e. omega arith)) (ih .0, (omega arith, λ f. h))
 
 -- Lines that end with 9999.

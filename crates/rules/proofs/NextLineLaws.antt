@@ -19,11 +19,11 @@ use Rattle.rules.proofs.OpenLaws.{climb-stop, climb-block, hangs-climb,
 use Rattle.layout.specs.Climb.{climb}
 
 -- the four ways, with what each says of the line before
-pub data Follows (r : ℕ) (before : List ℕ) : Type 0 where
-  first : r ≡ row0000 → before ≡ [] → Follows r before
-  starts : isOpening r ≡ true → isClosing (last before) ≡ true → block (last before) < block r → Follows r before
-  goes-on : isClosing (last before) ≡ false → (last before ≡ row9999 → ⊥) → block (last before) ≡ block r → Follows r before
-  ends : r ≡ row9999 → last before ≡ row9990 → Follows r before
+pub data NextLine (r : ℕ) (before : List ℕ) : Type 0 where
+  first : r ≡ row0000 → before ≡ [] → NextLine r before
+  starts : isOpening r ≡ true → isClosing (last before) ≡ true → block (last before) < block r → NextLine r before
+  goes-on : isClosing (last before) ≡ false → (last before ≡ row9999 → ⊥) → block (last before) ≡ block r → NextLine r before
+  ends : r ≡ row9999 → last before ≡ row9990 → NextLine r before
 
 -- only before the first line is there no line
 last-none : (before : List ℕ) → Stood before → last before ≡ none → before ≡ []
@@ -40,19 +40,19 @@ and-parts : (a b : Bool) → (a && b) ≡ true → (a ≡ true) × (b ≡ true)
 and-parts a b e = and-eq-true-iff a b .0 e
 
 module _ (before : List ℕ) (s : Stood before) (r : ℕ) (row : r < rowCount) where
-  follows-first : r ≡ row0000 → startsFile before ≡ true → Follows r before
+  next-first : r ≡ row0000 → startsFile before ≡ true → NextLine r before
   unfolding startsFile
-  follows-first a e = first a (last-none before s (eqb-true (last before) none e))
+  next-first a e = first a (last-none before s (eqb-true (last before) none e))
 
-  follows-ends : r ≡ row9999 → endsFile before ≡ true → Follows r before
+  next-ends : r ≡ row9999 → endsFile before ≡ true → NextLine r before
   unfolding endsFile
-  follows-ends z e = ends z (eqb-true (last before) row9990 e)
+  next-ends z e = ends z (eqb-true (last before) row9990 e)
 
-  follows-opening : isOpening r ≡ true → startsBlock r before ≡ true → Follows r before
+  next-opening : isOpening r ≡ true → startsBlock r before ≡ true → NextLine r before
   unfolding startsBlock
-  follows-opening o e = go (eqb (block r) 0) refl e
+  next-opening o e = go (eqb (block r) 0) refl e
     where
-      go : (t : Bool) → eqb (block r) 0 ≡ t → pick t (eqb (last before) row0000) (isClosing (last before) && ltb (block (last before)) (block r)) ≡ true → Follows r before
+      go : (t : Bool) → eqb (block r) 0 ≡ t → pick t (eqb (last before) row0000) (isClosing (last before) && ltb (block (last before)) (block r)) ≡ true → NextLine r before
       go true b e =
           let z : last before ≡ row0000 = eqb-true (last before) row0000 e in
           goes-on (ap isClosing z ∙ closing-0000) (λ q. omega arith) (ap block z ∙ block-0000 ∙ sym (eqb-true (block r) 0 b))
@@ -60,8 +60,8 @@ module _ (before : List ℕ) (s : Stood before) (r : ℕ) (row : r < rowCount) w
           let q = and-parts (isClosing (last before)) (ltb (block (last before)) (block r)) e in
           starts o (q .0) (ltb-true (block (last before)) (block r) (q .1))
 
-  follows-closing : isClosing r ≡ true → endsBlock r before ≡ true → Follows r before
-  follows-closing c e =
+  next-closing : isClosing r ≡ true → endsBlock r before ≡ true → NextLine r before
+  next-closing c e =
       let x = last before in
       let q = and-parts (eqb (block x) (block r) && not (isClosing x)) (ltb 0 (level x)) (sym (ends-last before s r row c) ∙ e) in
       let p = and-parts (eqb (block x) (block r)) (not (isClosing x)) (q .0) in
@@ -77,8 +77,8 @@ module _ (before : List ℕ) (s : Stood before) (r : ℕ) (row : r < rowCount) w
     met-top h =
         sym (climb-stop (level (parent r)) (last before) (omega (arith, parent-level r row deep))) ∙ met
 
-    follows-data : Follows r before
-    follows-data = goes-on (go (isClosing (last before)) refl) later same
+    next-data : NextLine r before
+    next-data = goes-on (go (isClosing (last before)) refl) later same
       where
         go : (t : Bool) → isClosing (last before) ≡ t → isClosing (last before) ≡ false
         go true c =
@@ -96,23 +96,23 @@ module _ (before : List ℕ) (s : Stood before) (r : ℕ) (row : r < rowCount) w
             ∙ ap block met ∙ parent-block r row deep
 
   -- by the sort of the row
-  pub follows : canStand r before ≡ true → Follows r before
-  follows can = go (ℕ-discrete r row0000) (isOpening r) refl (isClosing r) refl (ℕ-discrete r row9999)
+  pub next-line : canStand r before ≡ true → NextLine r before
+  next-line can = go (ℕ-discrete r row0000) (isOpening r) refl (isClosing r) refl (ℕ-discrete r row9999)
     where
-      go : Dec (r ≡ row0000) → (o : Bool) → isOpening r ≡ o → (c : Bool) → isClosing r ≡ c → Dec (r ≡ row9999) → Follows r before
-      go (yes e) o p c q d = follows-first e (sym (stand-first before) ∙ ap (λ k. canStand k before) (sym e) ∙ can)
-      go (no a) true p c q d = follows-opening p (sym (stand-opening before r row p) ∙ can)
-      go (no a) false p true q d = follows-closing q (sym (stand-closing before r row q) ∙ can)
+      go : Dec (r ≡ row0000) → (o : Bool) → isOpening r ≡ o → (c : Bool) → isClosing r ≡ c → Dec (r ≡ row9999) → NextLine r before
+      go (yes e) o p c q d = next-first e (sym (stand-first before) ∙ ap (λ k. canStand k before) (sym e) ∙ can)
+      go (no a) true p c q d = next-opening p (sym (stand-opening before r row p) ∙ can)
+      go (no a) false p true q d = next-closing q (sym (stand-closing before r row q) ∙ can)
       go (no a) false p false q (yes e) =
-          follows-ends e (sym (stand-last before) ∙ ap (λ k. canStand k before) (sym e) ∙ can)
+          next-ends e (sym (stand-last before) ∙ ap (λ k. canStand k before) (sym e) ∙ can)
       go (no a) false p false q (no z) =
-          let l = data-level r row a p q z in follows-data l (sym (stand-data before r row l) ∙ can)
+          let l = data-level r row a p q z in next-data l (sym (stand-data before r row l) ∙ can)
 
 -- "9999 .. is last"
 pub none-after-9999 : (before : List ℕ) → Stood before → last before ≡ row9999 → (r : ℕ) → r < rowCount → canStand r before ≡ true → ⊥
-none-after-9999 before s e r row can = go (follows before s r row can)
+none-after-9999 before s e r row can = go (next-line before s r row can)
   where
-    go : Follows r before → ⊥
+    go : NextLine r before → ⊥
     go (first z b) = unfold last in omega (arith, ap last b)
     go (starts o c l) = true≢false (sym c ∙ ap isClosing e ∙ closing-9999)
     go (goes-on c z b) = z e
