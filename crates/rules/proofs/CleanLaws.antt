@@ -1,7 +1,7 @@
 -- Clean histories, in which no byte breaks a rule, and refused ones: what is clean, what a refusal says, what stands and is counted.
-use mathlib.Core.Path.{_≡_, _∙_, refl, sym}
+use mathlib.Core.Path.{_≡_, _∙_, refl, sym, ap}
 use mathlib.Core.Bool.{true, false}
-use mathlib.Core.List.{List, [], _∷_}
+use mathlib.Core.List.{List, [], _∷_, _++_}
 use mathlib.Core.Logic.{_⊎_, inl, inr, ⊎-elim}
 use Prim.Native.Nat.{ℕ, suc, _≤_, _<_}
 use native.Mathlib.Omega.{arith}
@@ -63,6 +63,8 @@ counts-clean seen c = rw (standing-clean seen c)
 pub record Refused (seen : List ℕ) : Type 0 where
   pub before : List ℕ
   pub byte : ℕ
+  pub later : List ℕ
+  pub parts : seen ≡ later ++ byte ∷ before
   pub number : ℕ
   pub named : ℕ
   pub clean : Clean before
@@ -76,6 +78,8 @@ refused-now seen b n f c e =
     record {
       before = seen;
       byte = b;
+      later = [];
+      parts = refl;
       number = n;
       named = f;
       clean = c;
@@ -90,6 +94,8 @@ refused-stays seen b r =
     record {
       before = r .before;
       byte = r .byte;
+      later = b ∷ r .later;
+      parts = ap (λ bs. b ∷ bs) (r .parts);
       number = r .number;
       named = r .named;
       clean = r .clean;
@@ -106,9 +112,23 @@ pub clean-or-refused : (seen : List ℕ) → Clean seen ⊎ Refused seen
 clean-or-refused [] = inl clean-start
 clean-or-refused (b ∷ seen) = ⊎-elim (judge seen b (fault seen b) refl) (λ r. inr (refused-stays seen b r)) (clean-or-refused seen)
 
--- no history is both
-pub not-both : {X : Type 0} (seen : List ℕ) → Clean seen → Refused seen → X
-not-both seen c r = absurd (let e = r .says in let z : _≡_ {A = ℕ} 0 1 = cc in omega arith)
+-- what was refused stays refused
+pub verdict-later : (n line f l k : ℕ) (later seen : List ℕ) → verdict seen ≡ refused n line f l k
+    → verdict (later ++ seen) ≡ refused n line f l k
+verdict-later n line f l k [] seen e = e
+verdict-later n line f l k (b ∷ later) seen e =
+    verdict-stays (later ++ seen) b n line f l k (verdict-later n line f l k later seen e)
+
+-- no history is both open and refused, so one that is open is clean
+pub not-both : {X : Type 0} (seen : List ℕ) (l n : ℕ) → verdict seen ≡ stillOpen l n → Refused seen → X
+not-both seen l n e r = absurd (let q = r .says in let z : _≡_ {A = ℕ} 0 1 = cc in omega arith)
+
+pub open-clean : (seen : List ℕ) (l n : ℕ) → verdict seen ≡ stillOpen l n → Clean seen
+open-clean seen l n e = ⊎-elim (λ c. c) (not-both seen l n e) (clean-or-refused seen)
+
+pub refused-parts : (seen : List ℕ) (n line f l k : ℕ) → verdict seen ≡ refused n line f l k → Refused seen
+refused-parts seen n line f l k e =
+    ⊎-elim (λ c. absurd (let z : _≡_ {A = ℕ} 0 1 = cc in omega arith)) (λ r. r) (clean-or-refused seen)
 
 pub counts-left : (seen : List ℕ) (r : Refused seen) → counts seen ≡ countsOfRows (rows (r .before))
 unfolding counts
@@ -117,14 +137,14 @@ counts-left seen r = rw (r .left)
 -- A clean history was clean before its last byte, which breaks no rule.
 module _ (seen : List ℕ) (b : ℕ) (c : Clean (b ∷ seen)) where
   pub clean-before : Clean seen
-  clean-before = ⊎-elim (λ d. d) (λ r. not-both (b ∷ seen) c (refused-stays seen b r)) (clean-or-refused seen)
+  clean-before = ⊎-elim (λ d. d) (λ r. not-both (b ∷ seen) _ _ c (refused-stays seen b r)) (clean-or-refused seen)
 
   pub clean-clear : fault seen b ≡ clear
   clean-clear = go (fault seen b) refl
     where
       go : (f : Fault) → fault seen b ≡ f → fault seen b ≡ clear
       go clear e = e
-      go (breaks n f) e = not-both (b ∷ seen) c (refused-now seen b n f clean-before e)
+      go (breaks n f) e = not-both (b ∷ seen) _ _ c (refused-now seen b n f clean-before e)
 
 -- a byte that breaks no rule
 module _ (seen : List ℕ) (b : ℕ) (e : fault seen b ≡ clear) where
@@ -169,7 +189,8 @@ accepted-clean seen l n e =
     never : {X : Type 0} {r line f k m : ℕ} → refused r line f k m ≡ accepted l n → X
     never q = absurd (let z : _≡_ {A = ℕ} 0 1 = cc in omega arith)
 
-pub accepted-numbers : (seen : List ℕ) (l n : ℕ) → finishVerdict seen ≡ accepted l n → (length (lines seen) ≡ l) × (length seen ≡ n)
+pub accepted-numbers : (seen : List ℕ) (l n : ℕ) → finishVerdict seen ≡ accepted l n
+    → (length (lines seen) ≡ l) × (length seen ≡ n)
 accepted-numbers seen l n e =
     let c = accepted-clean seen l n e in
     let q : accepted (length (lines seen)) (length seen) ≡ accepted l n = rw (finish-clean seen (c .0), c .1) at e in

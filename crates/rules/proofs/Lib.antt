@@ -14,4 +14,5 @@ pub mod CleanLaws
 pub mod SoundLaws
 pub mod StatedLaws
 pub mod TotalLaws
+pub mod FollowsLaws
 pub mod StarredCases

@@ -5,4 +5,5 @@ pub mod Fields
 pub mod Rules
 pub mod Verdict
 pub mod Totals
+pub mod Follows
 pub mod Cases
