@@ -17,7 +17,10 @@ unfoldable pub shallower : ℕ → List ℕ → List ℕ
 shallower n [] = []
 shallower n (r ∷ rs) = let rest = shallower n rs in pick (ltb (level r) n) (r ∷ rest) rest
 
--- "the open lines are the line before and its ancestors up to the opening": their rows
+-- "the open lines are the line before and its ancestors up to the opening": their rows, the nearest first.
+-- One row more stays, last in the list: 0000, since its level 0 is below that of each line up to 9999. It changes nothing: no row
+-- has 0000 as its parent, and it is no block's opening. (proofs/OpenLaws.antt, open-ancestors: of the rows of level 1 and deeper
+-- just the line before and its ancestors are open.)
 unfoldable pub openRows : List ℕ → List ℕ
 openRows [] = []
 openRows (r ∷ before) = r ∷ shallower (level r) (openRows before)

@@ -1,4 +1,4 @@
--- What demand 3 says of an accepted file, "the block counts add up to its stated total"; and of the order of its lines.
+-- What demand 3 says of an accepted file, "the block counts add up to its stated total", and 01 of the order of its lines.
 use mathlib.Core.Path.{_≡_}
 use mathlib.Core.Bool.{true}
 use mathlib.Core.List.{List, [], _∷_, reverse}
