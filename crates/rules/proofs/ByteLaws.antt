@@ -60,9 +60,6 @@ module _ (seen : List ℕ) where
   pub rows-bar : rows (bar ∷ seen) ≡ rows seen
   rows-bar = rows-on seen bar refl
 
-  pub hand-bar : lineAtHand (bar ∷ seen) ≡ bar ∷ lineAtHand seen
-  hand-bar = hand-on seen bar refl
-
   cut-bar : cut bar (lineAtHand (bar ∷ seen)) ≡ cutBy true bar (cut bar (lineAtHand seen))
   cut-bar = cut-on seen bar refl true refl
 

@@ -45,10 +45,6 @@ module _ (seen : List ℕ) (b : ℕ) where
   unfolding standing stands
   standing-refused n line f l k e = rw e
 
-  pub counts-refused : (n line f l k : ℕ) → verdict (b ∷ seen) ≡ refused n line f l k → counts (b ∷ seen) ≡ counts seen
-  unfolding counts
-  counts-refused n line f l k e = rw (standing-refused n line f l k e)
-
 -- the bytes of a clean history stand
 pub standing-clean : (seen : List ℕ) → Clean seen → standing seen ≡ seen
 unfolding standing stands
@@ -129,10 +125,6 @@ open-clean seen l n e = ⊎-elim (λ c. c) (not-both seen l n e) (clean-or-refus
 pub refused-parts : (seen : List ℕ) (n line f l k : ℕ) → verdict seen ≡ refused n line f l k → Refused seen
 refused-parts seen n line f l k e =
     ⊎-elim (λ c. absurd (let z : _≡_ {A = ℕ} 0 1 = cc in omega arith)) (λ r. r) (clean-or-refused seen)
-
-pub counts-left : (seen : List ℕ) (r : Refused seen) → counts seen ≡ countsOfRows (rows (r .before))
-unfolding counts
-counts-left seen r = rw (r .left)
 
 -- A clean history was clean before its last byte, which breaks no rule.
 module _ (seen : List ℕ) (b : ℕ) (c : Clean (b ∷ seen)) where

@@ -1,17 +1,17 @@
 -- The counts of lines: what one more line does to them, and what they add up to.
-use mathlib.Core.Path.{_≡_, _∙_, refl, sym, ap, ap₂}
+use mathlib.Core.Path.{_≡_, _∙_, refl, sym, ap}
 use mathlib.Core.Bool.{Bool, true}
 use mathlib.Core.List.{List, [], _∷_}
-use Prim.Native.Nat.{ℕ, zero, suc, _+_, _<_, _≤_}
+use Prim.Native.Nat.{ℕ, zero, suc, _+_, _<_}
 use native.Mathlib.Nat.{add-zero, zero-add}
 use native.Mathlib.Omega.{arith}
 use lib.Dec.{eqb}
-use lib.ListN.{length, getD, set, List·getD-eq-default}
+use lib.ListN.{length, getD, set}
 use borrow.Author.Tests.{eq-eqb, ne-eqb}
 use Rattle.layout.specs.Pick.{pick}
 use Rattle.layout.specs.Rows.{rowCount, block}
 use Rattle.layout.specs.Lists.{tabulate}
-use Rattle.layout.proofs.TabulateLaws.{tabulate-length, tabulate-at, tabulate-same, tabulate-set}
+use Rattle.layout.proofs.TabulateLaws.{tabulate-length, tabulate-at, tabulate-set}
 use Rattle.rules.specs.Counts.{linesOfRow, linesOfBlock, countsOfRows}
 use Rattle.rules.specs.Totals.{sum, sumOfBlock, blockCount}
 use Rattle.rules.proofs.AllRows.{AllRows}

@@ -17,7 +17,7 @@ use Rattle.rules.specs.Fields.{formOf, states}
 use Rattle.rules.specs.Rules.{Fault, clear, breaks, rules, firstBroken, inField, pastFields, rowToBe, formAtHand, openedBy, finished, isLastLine, isCodeBar, isFieldBar, breaks1, breaks2, breaks3, breaks4, breaks5, breaks6, breaks7, breaks8, breaks9, breaks10, breaks11, breaks12, breaks13}
 use Rattle.rules.proofs.TestLaws.{split, and-left, and-right, and-false}
 use Rattle.layout.proofs.RoleLaws.{fields-none, none-kind}
-use Rattle.rules.proofs.ByteLaws.{bars-on, row-on, row-early}
+use Rattle.rules.proofs.ByteLaws.{row-early}
 
 -- where a byte stands
 pub data Place (seen : List ℕ) : Type 0 where
@@ -66,11 +66,6 @@ module _ (seen : List ℕ) where
       go (no z) (yes d) f = codes d
       go (no z) (no d) (yes f) = ends (omega arith) (fields-past f)
       go (no z) (no d) (no f) = fills (omega arith) (fields-in (omega arith) (omega arith))
-
--- a byte of a field leaves the line where it stands
-pub past-on : (seen : List ℕ) (b : ℕ) → eqb b LF ≡ false → eqb b bar ≡ false → pastFields (b ∷ seen) ≡ pastFields seen
-unfolding pastFields
-past-on seen b plain inner = rw (bars-on seen b plain inner, row-on seen b plain inner)
 
 -- the rules of the bar after field 1
 abbrev pub codeFault : List ℕ → Fault

@@ -1,19 +1,19 @@
 -- Occurrence under one parent line, from two numbers for each row: the number of its last line, and its occurrence there.
 use mathlib.Core.Path.{_≡_, _∙_, refl, sym, ap}
-use mathlib.Core.Bool.{Bool, true, false}
 use mathlib.Core.List.{List, [], _∷_}
 use Prim.Native.Nat.{ℕ, suc, _<_, _≤_}
 use native.Mathlib.Omega.{arith}
 use native.Mathlib.Decide.{ℕ-discrete, decLt}
 use lib.Dec.{eqb, ltb}
 use lib.ListN.{length, getD, set}
-use borrow.Author.Tests.{eq-eqb, ne-eqb, lt-ltb, le-ltb, lt-leb}
+use borrow.Author.Tests.{eq-eqb, ne-eqb, lt-ltb, le-ltb}
 use Rattle.layout.specs.Pick.{pick}
-use Rattle.layout.specs.Rows.{none, rowCount, level, parent}
+use Rattle.layout.specs.Rows.{rowCount, level, parent}
 use Rattle.rules.specs.Order.{underParent}
 use Rattle.layout.specs.Lists.{tabulate}
+use Rattle.rules.proofs.TestLaws.{pick-le}
 use Rattle.rules.proofs.AllRows.{AllRows}
-use Rattle.layout.proofs.ParentLaws.{parent-level}
+use Rattle.layout.proofs.ParentLaws.{parent-level, parent-none}
 use Rattle.layout.proofs.TabulateLaws.{tabulate-at, tabulate-past, tabulate-set}
 
 -- the number, from 1, of the last line of row k; 0 where there is none
@@ -55,10 +55,6 @@ module _ (k r : ℕ) (rows : List ℕ) where
   pub under-past : (r ≡ parent k → ⊥) → (r ≡ k → ⊥) → underParent k (r ∷ rows) ≡ underParent k rows
   unfolding underParent
   under-past o e = rw (ne-eqb r (parent k) o, ne-eqb r k e)
-
-pick-le : (t : Bool) (a b n : ℕ) → a ≤ n → b ≤ n → pick t a b ≤ n
-pick-le true a b n p q = p
-pick-le false a b n p q = q
 
 pub stamped-le : (k : ℕ) (rows : List ℕ) → stamped k rows ≤ length rows
 unfolding stamped
@@ -117,15 +113,11 @@ stampAt-is p rows all = go (decLt p rowCount)
 pub under-stamps : (k : ℕ) → (parent k ≡ k → ⊥) → (rows : List ℕ) → AllRows rows → underParent k rows ≡ pick (ltb (stampAt (parent k) rows) (stamped k rows)) (occurred k rows) 0
 under-stamps k other rows all = rw (stampAt-is (parent k) rows all) (under-stamped k other rows)
 
-no-parent : (k : ℕ) → level k < 2 → parent k ≡ none
-unfolding parent
-no-parent k h = rw (lt-leb 2 (level k) h)
-
 pub parent-other : (k : ℕ) → k < rowCount → parent k ≡ k → ⊥
 parent-other k h e = go (decLt (level k) 2)
   where
     go : Dec (level k < 2) → ⊥
-    go (yes l) = omega (arith, no-parent k l)
+    go (yes l) = omega (arith, parent-none k l)
     go (no l) = omega (arith, parent-level k h (omega arith), ap level e)
 
 -- the two arrays, one entry for each row, and what one more line does to them

@@ -7,7 +7,6 @@ use native.Mathlib.Omega.{arith}
 use native.Mathlib.Decide.{ℕ-discrete, decLt}
 use lib.Dec.{eqb, ltb}
 use borrow.Author.Tests.{eq-eqb, ne-eqb, lt-ltb, le-ltb, eqb-true}
-use Rattle.layout.specs.Pick.{pick}
 use Rattle.layout.specs.Rows.{none, rowCount, level, block, isOpening, isClosing, parent, opening}
 use Rattle.layout.specs.Climb.{climbBy, climb}
 use Rattle.rules.specs.Order.{last, shallower, openRows, among, isOpen, endsBlock, hangs, canStand}

@@ -1,8 +1,7 @@
 -- What holds of a clean history: its lines stand, their fields passed their bars, and the line at hand is on its way to that.
-use mathlib.Core.Path.{_≡_, _∙_, refl, sym, ap}
+use mathlib.Core.Path.{_≡_, _∙_, refl, sym}
 use mathlib.Core.Bool.{true, false, not, _&&_, _||_}
 use mathlib.Core.List.{List, [], _∷_, map}
-use mathlib.Core.Logic.{_⊎_, inl, inr}
 use Prim.Native.Nat.{ℕ, suc, _≤_, _<_}
 use native.Mathlib.Omega.{arith}
 use native.Mathlib.Decide.{ℕ-discrete}
@@ -13,23 +12,21 @@ use Rattle.layout.specs.Pick.{pick}
 use Rattle.layout.specs.Text.{codeNumber}
 use Rattle.layout.specs.Rows.{none, rowCount, rowOfCode, fields, isClosing}
 use Rattle.layout.specs.Kinds.{kind}
-use Rattle.rules.specs.Bytes.{bar, CR, LF, lines, lineAtHand, field, rowOfWord, rowOf, rows, rowAtHand, bars, word, empty, isEndByte, cut}
+use Rattle.rules.specs.Bytes.{bar, LF, lines, lineAtHand, field, rowOfWord, rowOf, rows, rowAtHand, bars, word, empty, isEndByte, cut}
 use Rattle.rules.specs.Order.{canStand, hasRoom, isData}
 use Rattle.rules.specs.Counts.{due}
 use Rattle.rules.specs.Fields.{formOf, states}
-use Rattle.rules.specs.Rules.{clear, breaks, rules, firstBroken, fault, inField, pastFields, rowToBe, formAtHand, openedBy, byteLimit}
+use Rattle.rules.specs.Rules.{clear, rules, firstBroken, fault, inField, pastFields, rowToBe, formAtHand, openedBy, byteLimit}
 use Rattle.rules.proofs.TestLaws.{split, pick-le, pick-clear, broken-clear, then-holds}
 use Rattle.layout.proofs.CodeLaws.{row-of-code-le}
 use Rattle.layout.proofs.RowLaws.{fields-two}
-use Rattle.rules.proofs.ByteLaws.{lines-on, rows-on, bars-on, word-on, field-on, row-on, lines-bar, rows-bar, bars-bar, word-bar, field-bar, row-code, row-later, lines-lf, hand-lf, rows-lf, bars-lf}
-use Rattle.rules.proofs.FaultLaws.{Place, starts, codes, fills, ends, place, past-fields, in-fields, past-late, past-on, codeFault, fieldFault, fault-start, fault-byte, fault-past, fault-code-bar, fault-field-bar, code-in}
+use Rattle.rules.proofs.ByteLaws.{lines-on, rows-on, bars-on, field-on, row-on, lines-bar, rows-bar, bars-bar, field-bar, row-code, row-later, lines-lf, rows-lf, bars-lf}
+use Rattle.rules.proofs.FaultLaws.{Place, starts, codes, fills, ends, place, past-fields, in-fields, past-late, codeFault, fieldFault, fault-start, fault-byte, fault-past, fault-code-bar, fault-field-bar, code-in}
 use Rattle.rules.proofs.CleanLaws.{Clean, clean-before, clean-clear, clear-room, clear-rules}
 use Rattle.rules.proofs.Stood.{Stood}
 
--- the bar after field n of a line of row r, with the bytes w, breaks none of 10 to 13
+-- the bar after field n of a line of row r, with the bytes w, breaks neither 12 nor 13
 pub record Passed (r : ℕ) (before : List ℕ) (n : ℕ) (w : List ℕ) : Type 0 where
-  pub inCharacters : empty w ≡ false → formOf (kind r n) .characters w ≡ true
-  pub inSize : empty w ≡ false → formOf (kind r n) .size (length w) ≡ true
   pub inContent : formOf (kind r n) .content w ≡ true
   pub inCount : formOf (kind r n) .isCount ≡ true → states (due r before) w ≡ true
 
@@ -46,12 +43,10 @@ pub record Sound (seen : List ℕ) : Type 0 where
   -- the lines ended
   pub stood : Stood (rows seen)
   pub passed : AllPassed (lines seen)
-  -- the line at hand: its row once its code has come, its bars, its fields that have ended, what stands past its fields
+  -- the line at hand: its row once its code has come, its bars, its fields that have ended
   pub known : 2 ≤ bars seen → Known (rowAtHand seen) (rows seen)
-  pub first : bars seen ≡ 0 → lineAtHand seen ≡ []
   pub within : bars seen ≤ suc (fields (rowAtHand seen))
   pub passing : (n : ℕ) → 2 ≤ n → n < bars seen → Passed (rowAtHand seen) (rows seen) n (field n (lineAtHand seen))
-  pub ending : pastFields seen ≡ true → (word seen ≡ []) ⊎ (word seen ≡ CR ∷ [])
   -- all bytes
   pub short : length seen ≤ byteLimit
 
@@ -86,8 +81,6 @@ field-passed seen e =
     let twelve = pick-clear (not (f .content w)) 12 n _ (eleven .1) in
     let thirteen = pick-clear (f .isCount && not s) 13 n _ (twelve .1) in
     record {
-      inCharacters = λ h. then-holds (not (empty w)) (f .characters w) (ten .0) (rw h);
-      inSize = λ h. then-holds (not (empty w)) (f .size (length w)) (eleven .0) (rw h);
       inContent = not-false (f .content w) (twelve .0);
       inCount = then-holds (f .isCount) s (thirteen .0);
     }
@@ -119,10 +112,8 @@ sound-lf seen s small e =
       stood = rw (rows-lf seen) (row .1, row .2, row .0, s .stood);
       passed = rw (lines-lf seen) (λ n h l. s .passing n h (omega (arith, past-fields seen p)), s .passed);
       known = λ h. absurd (omega arith);
-      first = λ z. hand-lf seen;
       within = omega arith;
       passing = λ n h l. absurd (omega arith);
-      ending = λ q. absurd (omega (arith, past-late (LF ∷ seen) q));
       short = small;
     }
 
@@ -173,39 +164,21 @@ module _ (seen : List ℕ) (e : firstBroken rules seen bar ≡ clear) where
         stood = rw (rows-bar seen) (s .stood);
         passed = rw (lines-bar seen) (s .passed);
         known = known-bar s;
-        first = λ z. absurd (omega (arith, bars-bar seen));
         within = within-bar s;
         passing = passing-bar s;
-        ending = λ p. inl (word-bar seen);
         short = small;
       }
 
 -- Any other byte.
-module _ (seen : List ℕ) (b : ℕ) (plain : eqb b LF ≡ false) (inner : eqb b bar ≡ false) (e : firstBroken rules seen b ≡ clear) where
-  not-start : bars seen ≡ 0 → {X : Type 0} → X
-  not-start z = broken-clear 1 0 (sym (fault-start seen b z ∙ rw inner) ∙ e)
-
-  -- past the fields it is the CR right after the last bar
-  past-word : pastFields seen ≡ true → b ∷ word seen ≡ CR ∷ []
-  unfolding isEndByte empty
-  past-word p = go (word seen) (sym (fault-past seen b p) ∙ e)
-    where
-      go : (w : List ℕ)
-          → pick (empty w) (pick (isEndByte b) (pick (eqb b LF) (breaks 9 0) clear) (breaks 8 (bars seen))) (pick (eqb b LF) clear (breaks 9 0)) ≡ clear
-          → b ∷ w ≡ CR ∷ []
-      go [] q = split (eqb b CR) (λ t. ap (λ c. c ∷ []) (eqb-true b CR t)) (λ t. broken-clear 8 (bars seen) (rw (t, plain) at q))
-      go (c ∷ w) q = broken-clear 9 0 (rw plain at q)
-
+module _ (seen : List ℕ) (b : ℕ) (plain : eqb b LF ≡ false) (inner : eqb b bar ≡ false) where
   sound-on : Sound seen → length seen < byteLimit → Sound (b ∷ seen)
   sound-on s small =
       record {
         stood = rw (rows-on seen b plain) (s .stood);
         passed = rw (lines-on seen b plain) (s .passed);
         known = rw (rows-on seen b plain, row-on seen b plain inner, bars-on seen b plain inner) (s .known);
-        first = λ z. not-start (sym (bars-on seen b plain inner) ∙ z);
         within = rw (row-on seen b plain inner, bars-on seen b plain inner) (s .within);
         passing = λ n h l. rw (rows-on seen b plain, row-on seen b plain inner, field-on seen b plain inner n) (s .passing n h (rw (bars-on seen b plain inner) at l));
-        ending = λ p. inr (word-on seen b plain inner ∙ past-word (sym (past-on seen b plain inner) ∙ p));
         short = small;
       }
 
@@ -215,7 +188,7 @@ sound-next seen b s c =
     let small = clear-room seen b c in
     let e = clear-rules seen b c in
     split (eqb b LF) (λ t. let p = eqb-true b LF t in rw p (sound-lf seen s small (rw p at e)))
-    (λ t. split (eqb b bar) (λ u. let p = eqb-true b bar u in rw p (sound-bar seen (rw p at e) s small)) (λ u. sound-on seen b t u e s small))
+    (λ t. split (eqb b bar) (λ u. let p = eqb-true b bar u in rw p (sound-bar seen (rw p at e) s small)) (λ u. sound-on seen b t u s small))
 
 sound-start : Sound []
 unfolding rows lines lineAtHand bars cut
@@ -224,10 +197,8 @@ sound-start =
       stood = tt;
       passed = tt;
       known = λ h. absurd (omega arith);
-      first = λ z. refl;
       within = omega arith;
       passing = λ n h l. absurd (omega arith);
-      ending = λ p. absurd (omega (arith, past-late [] p));
       short = omega arith;
     }
 

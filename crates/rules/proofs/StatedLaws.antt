@@ -2,13 +2,13 @@
 use mathlib.Core.Path.{_≡_}
 use mathlib.Core.Bool.{true, not, _||_}
 use mathlib.Core.List.{List, [], _∷_, map}
-use Prim.Native.Nat.{ℕ, _≤_}
+use Prim.Native.Nat.{ℕ}
 use native.Mathlib.Omega.{arith}
 use lib.Dec.{eqb}
 use borrow.Author.Tests.{eqb-true}
 use Rattle.layout.specs.Rows.{isOpening, isClosing, row9999}
 use Rattle.layout.specs.Kinds.{kind}
-use Rattle.rules.specs.Bytes.{lines, lineAtHand, field, rowOf, rows, rowAtHand, bars, empty}
+use Rattle.rules.specs.Bytes.{lines, field, rowOf, rows, empty}
 use Rattle.rules.specs.Counts.{due}
 use Rattle.rules.specs.Fields.{formOf, isText, states, value}
 use Rattle.rules.proofs.TestLaws.{and-right}
@@ -69,10 +69,3 @@ module _ (seen : List ℕ) (s : Sound seen) where
   pub opened : Opened (lines seen)
   unfolding rows
   opened = all-opened (lines seen) (s .stood) (s .passed)
-
-  -- of the line at hand, once the bar after field 2 has come
-  pub counted : 3 ≤ bars seen → States (rowAtHand seen) (rows seen) (field 2 (lineAtHand seen))
-  counted h = count-states (rowAtHand seen) (rows seen) (field 2 (lineAtHand seen)) (s .passing 2 (omega arith) h)
-
-  pub opening-said : 3 ≤ bars seen → Opens (rowAtHand seen) (field 2 (lineAtHand seen))
-  opening-said h = opening-is (rowAtHand seen) (rows seen) (field 2 (lineAtHand seen)) (s .passing 2 (omega arith) h)

@@ -1,10 +1,10 @@
 -- 01, "Fields of the typed lines": what a field of each kind may hold. A word is a field's bytes, the latest first.
 use mathlib.Core.Bool.{Bool, true, false, not, _&&_, _||_}
 use mathlib.Core.List.{List, [], _∷_, reverse}
-use Prim.Native.Nat.{ℕ, zero, suc, _+_, _-_, _*_, _/_, _%_}
+use Prim.Native.Nat.{ℕ, suc, _+_, _-_, _*_, _/_, _%_}
 use Prim.Native.String.{String}
-use lib.Dec.{eqb, leb, ltb}
-use lib.ListN.{length, getD, take, drop}
+use lib.Dec.{eqb, leb}
+use lib.ListN.{getD, take, drop}
 use Rattle.layout.specs.Pick.{pick}
 use Rattle.layout.specs.Text.{bytes}
 use Rattle.layout.specs.Kinds.{Kind, codeField, free, C, N, N-, decimals, date, lfpd, brasil, opens, count}

@@ -1,8 +1,8 @@
 -- 01, "The 98 rows" and "The order of lines": open lines, parents among the lines before, and where a line can stand.
 -- `before` has the rows of the lines before a line, the nearest first.
-use mathlib.Core.Bool.{Bool, true, false, _&&_, _||_}
+use mathlib.Core.Bool.{Bool, false, _&&_, _||_}
 use mathlib.Core.List.{List, [], _∷_}
-use Prim.Native.Nat.{ℕ, zero, suc}
+use Prim.Native.Nat.{ℕ, suc}
 use lib.Dec.{eqb, leb, ltb}
 use Rattle.layout.specs.Pick.{pick}
 use Rattle.layout.specs.Rows.{none, anyNumber, level, limit, block, isOpening, isClosing, parent, opening, row0000, row9990, row9999}

@@ -1,8 +1,8 @@
 -- 01, "What a refusal says": rules 1 to 13, 15 and 16, one by one, and which of them a byte breaks.
 -- `seen` has the bytes received before the byte b, the latest first.
-use mathlib.Core.Bool.{Bool, true, false, not, _&&_, _||_}
+use mathlib.Core.Bool.{Bool, false, not, _&&_, _||_}
 use mathlib.Core.List.{List, [], _∷_}
-use Prim.Native.Nat.{ℕ, zero, suc}
+use Prim.Native.Nat.{ℕ}
 use Prim.Native.String.{String}
 use lib.Dec.{eqb, leb, ltb}
 use lib.ListN.{length}

@@ -1,7 +1,7 @@
 -- 01, "What a refusal says": the verdict of all bytes so far, the answer of finish, and the 98 counts.
 use mathlib.Core.Bool.{Bool, true, false}
 use mathlib.Core.List.{List, [], _∷_, reverse}
-use Prim.Native.Nat.{ℕ, zero, suc}
+use Prim.Native.Nat.{ℕ, suc}
 use lib.ListN.{length}
 use Rattle.layout.specs.Pick.{pick}
 use Rattle.rules.specs.Bytes.{lines, rows}
