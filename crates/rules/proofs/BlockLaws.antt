@@ -71,13 +71,15 @@ later-block (r ∷ before) s b h =
     go (ends z e) ih = ih (omega (arith, ap block z, ap block e, block-9990))
 
 -- where a line can stand, the lines of its block are those since the last closing: none at its opening, all at its closing
-pub block-lines : (before : List ℕ) → Stood before → (r : ℕ) → r < rowCount → canStand r before ≡ true → (r ≡ row9999 → ⊥) → linesOfBlock (block r) before ≡ since before
+pub block-lines : (before : List ℕ) → Stood before → (r : ℕ) → r < rowCount → canStand r before ≡ true → (r ≡ row9999 → ⊥)
+    → linesOfBlock (block r) before ≡ since before
 unfolding last
 block-lines [] s r row can other = no-lines (block r) ∙ unfold since in refl
 block-lines (x ∷ before) s r row can other =
     go (next-line (x ∷ before) s r row can) (block-lines before (s .3) x (s .2) (s .0))
   where
-    go : NextLine r (x ∷ before) → ((x ≡ row9999 → ⊥) → linesOfBlock (block x) before ≡ since before) → linesOfBlock (block r) (x ∷ before) ≡ since (x ∷ before)
+    go : NextLine r (x ∷ before) → ((x ≡ row9999 → ⊥) → linesOfBlock (block x) before ≡ since before)
+        → linesOfBlock (block r) (x ∷ before) ≡ since (x ∷ before)
     go (first z e) ih = rw e (no-lines (block r) ∙ unfold since in refl)
     go (starts o c l) ih = later-block (x ∷ before) s (block r) l ∙ sym (since-last (x ∷ before) c)
     go (goes-on c z e) ih =
@@ -107,7 +109,8 @@ block-with-9999 x before = go (ℕ-discrete (block row9999) x)
 closing-other : (r : ℕ) → isClosing r ≡ true → r ≡ row9999 → ⊥
 closing-other r c z = true≢false (sym c ∙ ap isClosing z ∙ closing-9999)
 
-pub block-since : (before : List ℕ) → Stood before → (r : ℕ) → r < rowCount → isClosing r ≡ true → endsBlock r before ≡ true → linesOfBlock (block r) before ≡ since before
+pub block-since : (before : List ℕ) → Stood before → (r : ℕ) → r < rowCount → isClosing r ≡ true → endsBlock r before ≡ true
+    → linesOfBlock (block r) before ≡ since before
 block-since before s r row c e =
     block-lines before s r row (stand-closing before r row c ∙ e) (closing-other r c)
 
@@ -116,11 +119,13 @@ pub due-9999 : (before : List ℕ) → due row9999 before ≡ suc (length before
 unfolding due
 due-9999 before = refl
 
-pub due-closing : (r : ℕ) (before : List ℕ) → isClosing r ≡ true → due r before ≡ suc (linesOfBlock (block r) before) + pick (eqb (block r) (block row9999)) 1 0
+pub due-closing : (r : ℕ) (before : List ℕ) → isClosing r ≡ true
+    → due r before ≡ suc (linesOfBlock (block r) before) + pick (eqb (block r) (block row9999)) 1 0
 unfolding due
 due-closing r before c = rw (ne-eqb r row9999 (closing-other r c))
 
-pub due-since : (before : List ℕ) → Stood before → (r : ℕ) → r < rowCount → isClosing r ≡ true → endsBlock r before ≡ true → due r before ≡ suc (since before) + pick (eqb (block r) (block row9999)) 1 0
+pub due-since : (before : List ℕ) → Stood before → (r : ℕ) → r < rowCount → isClosing r ≡ true → endsBlock r before ≡ true
+    → due r before ≡ suc (since before) + pick (eqb (block r) (block row9999)) 1 0
 due-since before s r row c e =
     due-closing r before c ∙ ap (λ n. suc n + pick (eqb (block r) (block row9999)) 1 0) (block-since before s r row c e)
 
@@ -173,7 +178,8 @@ still-open before r row (ends z e) other = absurd (other z)
 abbrev Claimed : List ℕ → Type 0
 Claimed before = claims before + since before ≡ length before + ahead (last before)
 
-claimed-line : (r : ℕ) (before : List ℕ) → linesOfBlock (block r) before ≡ since before → ahead (last before) ≡ 0 → Claimed before → Claimed (r ∷ before)
+claimed-line : (r : ℕ) (before : List ℕ) → linesOfBlock (block r) before ≡ since before → ahead (last before) ≡ 0 → Claimed before
+    → Claimed (r ∷ before)
 unfolding last
 claimed-line r before n a ih = go (isClosing r) refl
   where
@@ -200,4 +206,5 @@ claims-total before s =
   where
     go : last before ≡ row9990 → claims before ≡ suc (length before)
     go e =
-        omega (arith, claimed before (s .3) (λ z. omega arith), since-last before (ap isClosing e ∙ closing-9990), ap ahead e, ahead-9990)
+        let c = claimed before (s .3) (λ z. omega arith) in
+        omega (arith, since-last before (ap isClosing e ∙ closing-9990), ap ahead e, ahead-9990)

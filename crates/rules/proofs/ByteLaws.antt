@@ -9,7 +9,8 @@ use lib.ListN.{length, length-map}
 use borrow.Author.Tests.{ne-eqb}
 use Rattle.layout.specs.Pick.{pick}
 use Rattle.layout.specs.Rows.{none}
-use Rattle.rules.specs.Bytes.{bar, LF, cut, cutBy, lines, lineAtHand, part, field, rowOfWord, rowOf, rows, rowAtHand, bars, word}
+use Rattle.rules.specs.Bytes.{bar, LF, cut, cutBy, lines, lineAtHand, part}
+use Rattle.rules.specs.Bytes.{field, rowOfWord, rowOf, rows, rowAtHand, bars, word}
 use Rattle.rules.specs.Rules.{rowToBe}
 use Rattle.rules.proofs.TestLaws.{pick-of}
 

@@ -1,4 +1,5 @@
--- Clean histories, in which no byte breaks a rule, and refused ones: what is clean, what a refusal says, what stands and is counted.
+-- Clean histories, in which no byte breaks a rule, and refused ones: what is clean, what a refusal says, what stands, and what
+-- finish answers.
 use mathlib.Core.Path.{_≡_, _∙_, refl, sym, ap}
 use mathlib.Core.Bool.{true, false}
 use mathlib.Core.List.{List, [], _∷_, _++_}
@@ -11,7 +12,8 @@ use Rattle.layout.specs.Pick.{pick}
 use Rattle.rules.specs.Bytes.{cut, lines, rows}
 use Rattle.rules.specs.Counts.{countsOfRows}
 use Rattle.rules.specs.Rules.{Fault, clear, breaks, rules, firstBroken, faultBy, fault, finished, full, byteLimit}
-use Rattle.rules.specs.Verdict.{stillOpen, refused, accepted, judged, verdictAfter, verdict, stands, standing, counts, finishAfter, finishVerdict}
+use Rattle.rules.specs.Verdict.{stillOpen, refused, accepted, judged, verdictAfter}
+use Rattle.rules.specs.Verdict.{verdict, stands, standing, counts, finishAfter, finishVerdict}
 use Rattle.rules.proofs.TestLaws.{split, pick-clear}
 
 abbrev pub Clean : List ℕ → Type 0
@@ -106,7 +108,8 @@ judge seen b (breaks n f) e c = inr (refused-now seen b n f c e)
 
 pub clean-or-refused : (seen : List ℕ) → Clean seen ⊎ Refused seen
 clean-or-refused [] = inl clean-start
-clean-or-refused (b ∷ seen) = ⊎-elim (judge seen b (fault seen b) refl) (λ r. inr (refused-stays seen b r)) (clean-or-refused seen)
+clean-or-refused (b ∷ seen) =
+    ⊎-elim (judge seen b (fault seen b) refl) (λ r. inr (refused-stays seen b r)) (clean-or-refused seen)
 
 -- what was refused stays refused
 pub verdict-later : (n line f l k : ℕ) (later seen : List ℕ) → verdict seen ≡ refused n line f l k
@@ -164,11 +167,13 @@ clean-short (b ∷ seen) c = clear-room seen b (clean-clear seen b c)
 -- the answer of finish
 pub finish-clean : (seen : List ℕ) → Clean seen
     → finishVerdict seen
-    ≡ pick (finished seen) (accepted (length (lines seen)) (length seen)) (refused 14 (suc (length (lines seen))) 0 (length (lines seen)) (length seen))
+    ≡ pick (finished seen) (accepted (length (lines seen)) (length seen))
+    (refused 14 (suc (length (lines seen))) 0 (length (lines seen)) (length seen))
 unfolding finishVerdict finishAfter
 finish-clean seen c = rw c
 
-pub finish-refused : (seen : List ℕ) (n line f l k : ℕ) → verdict seen ≡ refused n line f l k → finishVerdict seen ≡ refused n line f l k
+pub finish-refused : (seen : List ℕ) (n line f l k : ℕ) → verdict seen ≡ refused n line f l k
+    → finishVerdict seen ≡ refused n line f l k
 unfolding finishVerdict finishAfter
 finish-refused seen n line f l k e = rw e
 

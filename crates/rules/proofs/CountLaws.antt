@@ -35,7 +35,8 @@ pub counts-length : (rows : List ℕ) → length (countsOfRows rows) ≡ rowCoun
 unfolding countsOfRows
 counts-length rows = tabulate-length rowCount (λ j. linesOfRow j rows)
 
-pub counts-line : (rows : List ℕ) (r : ℕ) → r < rowCount → countsOfRows (r ∷ rows) ≡ set (countsOfRows rows) r (suc (linesOfRow r rows))
+pub counts-line : (rows : List ℕ) (r : ℕ) → r < rowCount
+    → countsOfRows (r ∷ rows) ≡ set (countsOfRows rows) r (suc (linesOfRow r rows))
 unfolding countsOfRows
 counts-line rows r h =
     sym (tabulate-set rowCount (λ k. linesOfRow k rows) (λ k. linesOfRow k (r ∷ rows)) r (suc (linesOfRow r rows)) h

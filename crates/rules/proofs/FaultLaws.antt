@@ -14,7 +14,10 @@ use Rattle.rules.specs.Bytes.{bar, CR, LF, lines, rowOf, rows, rowAtHand
 use Rattle.rules.specs.Order.{last, canStand, hasRoom, isData}
 use Rattle.rules.specs.Counts.{due}
 use Rattle.rules.specs.Fields.{formOf, states}
-use Rattle.rules.specs.Rules.{Fault, clear, breaks, rules, firstBroken, inField, pastFields, rowToBe, formAtHand, openedBy, finished, isLastLine, isCodeBar, isFieldBar, breaks1, breaks2, breaks3, breaks4, breaks5, breaks6, breaks7, breaks8, breaks9, breaks10, breaks11, breaks12, breaks13}
+use Rattle.rules.specs.Rules.{Fault, clear, breaks, rules, firstBroken, inField, pastFields, rowToBe, formAtHand}
+use Rattle.rules.specs.Rules.{openedBy, finished, isLastLine, isCodeBar, isFieldBar}
+use Rattle.rules.specs.Rules.{breaks1, breaks2, breaks3, breaks4, breaks5, breaks6, breaks7}
+use Rattle.rules.specs.Rules.{breaks8, breaks9, breaks10, breaks11, breaks12, breaks13}
 use Rattle.rules.proofs.TestLaws.{split, and-left, and-right, and-false}
 use Rattle.layout.proofs.RoleLaws.{fields-none, none-kind}
 use Rattle.rules.proofs.ByteLaws.{row-early}
@@ -33,7 +36,9 @@ module _ (seen : List ℕ) where
 
   pub in-fields : inField seen ≡ true → bars seen ≤ fields (rowAtHand seen)
   unfolding inField
-  in-fields e = leb-true (bars seen) (fields (rowAtHand seen)) (and-right (ltb 0 (bars seen)) (leb (bars seen) (fields (rowAtHand seen))) e)
+  in-fields e =
+      leb-true (bars seen) (fields (rowAtHand seen))
+      (and-right (ltb 0 (bars seen)) (leb (bars seen) (fields (rowAtHand seen))) e)
 
   pub fields-in : 1 ≤ bars seen → bars seen ≤ fields (rowAtHand seen) → inField seen ≡ true
   unfolding inField
@@ -118,34 +123,43 @@ module _ (seen : List ℕ) where
   past-in e = rw (lt-leb (bars seen) (fields (rowAtHand seen)) (past-fields seen e)) (and-false (ltb 0 (bars seen)))
 
   pub fault-code-bar : bars seen ≡ 1 → firstBroken rules seen bar ≡ codeFault seen
-  unfolding rules firstBroken breaks1 breaks2 breaks3 breaks4 breaks5 breaks6 breaks7 breaks8 breaks9 breaks10 breaks11 breaks12 breaks13 inField pastFields isCodeBar isFieldBar formAtHand formOf isEndByte
+  unfolding rules firstBroken inField pastFields isCodeBar isFieldBar formAtHand formOf isEndByte
+      breaks1 breaks2 breaks3 breaks4 breaks5 breaks6 breaks7 breaks8 breaks9 breaks10 breaks11 breaks12 breaks13
   fault-code-bar e = simp (e, row-early seen (omega arith), fields-none, none-kind, and-false)
 
   pub fault-field-bar : 2 ≤ bars seen → inField seen ≡ true → firstBroken rules seen bar ≡ fieldFault seen
-  unfolding rules firstBroken breaks1 breaks2 breaks3 breaks4 breaks5 breaks6 breaks7 breaks8 breaks9 breaks10 breaks11 breaks12 breaks13 isCodeBar isFieldBar isEndByte
-  fault-field-bar h e = simp (ne-eqb (bars seen) 0 (λ z. omega arith), ne-eqb (bars seen) 1 (λ z. omega arith), e, in-past e, and-false)
+  unfolding rules firstBroken isCodeBar isFieldBar isEndByte
+      breaks1 breaks2 breaks3 breaks4 breaks5 breaks6 breaks7 breaks8 breaks9 breaks10 breaks11 breaks12 breaks13
+  fault-field-bar h e =
+      simp (ne-eqb (bars seen) 0 (λ z. omega arith), ne-eqb (bars seen) 1 (λ z. omega arith), e, in-past e, and-false)
 
   module _ (b : ℕ) where
     pub fault-start : bars seen ≡ 0 → firstBroken rules seen b ≡ pick (not (eqb b bar)) (breaks 1 0) clear
-    unfolding rules firstBroken breaks1 breaks2 breaks3 breaks4 breaks5 breaks6 breaks7 breaks8 breaks9 breaks10 breaks11 breaks12 breaks13 inField pastFields isCodeBar isFieldBar
+    unfolding rules firstBroken inField pastFields isCodeBar isFieldBar
+        breaks1 breaks2 breaks3 breaks4 breaks5 breaks6 breaks7 breaks8 breaks9 breaks10 breaks11 breaks12 breaks13
     fault-start e = simp (e, le-ltb (fields (rowAtHand seen)) 0 (omega arith))
 
     pub fault-past : pastFields seen ≡ true → firstBroken rules seen b ≡ endFault seen b
-    unfolding rules firstBroken breaks1 breaks2 breaks3 breaks4 breaks5 breaks6 breaks7 breaks8 breaks9 breaks10 breaks11 breaks12 breaks13 isCodeBar isFieldBar
+    unfolding rules firstBroken isCodeBar isFieldBar
+        breaks1 breaks2 breaks3 breaks4 breaks5 breaks6 breaks7 breaks8 breaks9 breaks10 breaks11 breaks12 breaks13
     fault-past e =
         let h = past-late seen e in
         simp (ne-eqb (bars seen) 0 (λ z. omega arith), ne-eqb (bars seen) 1 (λ z. omega arith), e, past-in e)
-        (split (empty (word seen)) (λ t. rw t (split (isEndByte b) (λ u. rw u) (λ u. rw u))) (λ t. rw t (split (eqb b LF) (λ u. rw u) (λ u. rw u))))
+        (split (empty (word seen)) (λ t. rw t (split (isEndByte b) (λ u. rw u) (λ u. rw u)))
+        (λ t. rw t (split (eqb b LF) (λ u. rw u) (λ u. rw u))))
 
     pub fault-byte : inField seen ≡ true → eqb b bar ≡ false → firstBroken rules seen b ≡ byteFault seen b
-    unfolding rules firstBroken breaks1 breaks2 breaks3 breaks4 breaks5 breaks6 breaks7 breaks8 breaks9 breaks10 breaks11 breaks12 breaks13 isCodeBar isFieldBar
+    unfolding rules firstBroken isCodeBar isFieldBar
+        breaks1 breaks2 breaks3 breaks4 breaks5 breaks6 breaks7 breaks8 breaks9 breaks10 breaks11 breaks12 breaks13
     fault-byte e t =
         let h = in-bars e in
         simp (ne-eqb (bars seen) 0 (λ z. omega arith), e, in-past e, t, and-false)
-        (split (ltb b 32) (λ l. rw l (split (empty (word seen) && isEndByte b) (λ m. rw m) (λ m. rw m))) (λ l. rw (l, high-byte b l, and-false (empty (word seen)))))
+        (split (ltb b 32) (λ l. rw l (split (empty (word seen) && isEndByte b) (λ m. rw m) (λ m. rw m)))
+        (λ l. rw (l, high-byte b l, and-false (empty (word seen)))))
 
     -- in a field, a byte of either kind
-    by-bar : (f : Fault) → inField seen ≡ true → firstBroken rules seen bar ≡ f → firstBroken rules seen b ≡ pick (eqb b bar) f (byteFault seen b)
+    by-bar : (f : Fault) → inField seen ≡ true → firstBroken rules seen bar ≡ f
+        → firstBroken rules seen b ≡ pick (eqb b bar) f (byteFault seen b)
     by-bar f e q =
         split (eqb b bar)
         (λ t. rw t (ap (firstBroken rules seen) (eqb-true b bar t) ∙ q))
@@ -154,7 +168,8 @@ module _ (seen : List ℕ) where
     pub fault-code : bars seen ≡ 1 → firstBroken rules seen b ≡ pick (eqb b bar) (codeFault seen) (byteFault seen b)
     fault-code e = by-bar (codeFault seen) (code-in seen e) (fault-code-bar e)
 
-    pub fault-field : 2 ≤ bars seen → inField seen ≡ true → firstBroken rules seen b ≡ pick (eqb b bar) (fieldFault seen) (byteFault seen b)
+    pub fault-field : 2 ≤ bars seen → inField seen ≡ true
+        → firstBroken rules seen b ≡ pick (eqb b bar) (fieldFault seen) (byteFault seen b)
     fault-field h e = by-bar (fieldFault seen) e (fault-field-bar h e)
 
 -- the file has ended where its last line is of row 9999

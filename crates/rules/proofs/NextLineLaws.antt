@@ -52,7 +52,9 @@ module _ (before : List ℕ) (s : Stood before) (r : ℕ) (row : r < rowCount) w
   unfolding startsBlock
   next-opening o e = go (eqb (block r) 0) refl e
     where
-      go : (t : Bool) → eqb (block r) 0 ≡ t → pick t (eqb (last before) row0000) (isClosing (last before) && ltb (block (last before)) (block r)) ≡ true → NextLine r before
+      go : (t : Bool) → eqb (block r) 0 ≡ t
+          → pick t (eqb (last before) row0000) (isClosing (last before) && ltb (block (last before)) (block r)) ≡ true
+          → NextLine r before
       go true b e =
           let z : last before ≡ row0000 = eqb-true (last before) row0000 e in
           goes-on (ap isClosing z ∙ closing-0000) (λ q. omega arith) (ap block z ∙ block-0000 ∙ sym (eqb-true (block r) 0 b))
@@ -82,7 +84,8 @@ module _ (before : List ℕ) (s : Stood before) (r : ℕ) (row : r < rowCount) w
       where
         go : (t : Bool) → isClosing (last before) ≡ t → isClosing (last before) ≡ false
         go true c =
-            absurd (true≢false (sym c ∙ ap isClosing (met-top (omega (arith, closing-level (last before) (closing-row before s c) c))) ∙ parent-closing r row deep))
+            let m = met-top (omega (arith, closing-level (last before) (closing-row before s c) c)) in
+            absurd (true≢false (sym c ∙ ap isClosing m ∙ parent-closing r row deep))
         go false c = c
 
         later : last before ≡ row9999 → ⊥
@@ -109,7 +112,8 @@ module _ (before : List ℕ) (s : Stood before) (r : ℕ) (row : r < rowCount) w
           let l = data-level r row a p q z in next-data l (sym (stand-data before r row l) ∙ can)
 
 -- "9999 .. is last"
-pub none-after-9999 : (before : List ℕ) → Stood before → last before ≡ row9999 → (r : ℕ) → r < rowCount → canStand r before ≡ true → ⊥
+pub none-after-9999 : (before : List ℕ) → Stood before → last before ≡ row9999
+    → (r : ℕ) → r < rowCount → canStand r before ≡ true → ⊥
 none-after-9999 before s e r row can = go (next-line before s r row can)
   where
     go : NextLine r before → ⊥

@@ -87,9 +87,11 @@ under-stamped k other (r ∷ rows) = go (ℕ-discrete r (parent k)) (ℕ-discret
 
     go : Dec (r ≡ p) → Dec (r ≡ k) → ByStamps k rows → ByStamps k (r ∷ rows)
     go (yes e) d ih =
-        rw (under-new k r rows e, stamped-here p r rows e, stamped-past k r rows (λ z. other (sym e ∙ z)), le-ltb (suc (length rows)) (stamped k rows) (omega (arith, stamped-le k rows)))
+        let earlier = le-ltb (suc (length rows)) (stamped k rows) (omega (arith, stamped-le k rows)) in
+        rw (under-new k r rows e, stamped-here p r rows e, stamped-past k r rows (λ z. other (sym e ∙ z)), earlier)
     go (no o) (yes d) ih =
-        rw (under-here k r rows o d, occurred-here k r rows d, stamped-here k r rows d, stamped-past p r rows o, lt-ltb (stamped p rows) (suc (length rows)) (omega (arith, stamped-le p rows)))
+        let later = lt-ltb (stamped p rows) (suc (length rows)) (omega (arith, stamped-le p rows)) in
+        rw (under-here k r rows o d, occurred-here k r rows d, stamped-here k r rows d, stamped-past p r rows o, later)
     go (no o) (no d) ih =
         rw (under-past k r rows o d, occurred-past k r rows d, stamped-past k r rows d, stamped-past p r rows o) ih
 
@@ -110,7 +112,8 @@ stampAt-is p rows all = go (decLt p rowCount)
     go (yes l) = rw (lt-ltb p rowCount l)
     go (no l) = rw (le-ltb p rowCount (omega arith)) (sym (stamped-none p rows all (omega arith)))
 
-pub under-stamps : (k : ℕ) → (parent k ≡ k → ⊥) → (rows : List ℕ) → AllRows rows → underParent k rows ≡ pick (ltb (stampAt (parent k) rows) (stamped k rows)) (occurred k rows) 0
+pub under-stamps : (k : ℕ) → (parent k ≡ k → ⊥) → (rows : List ℕ) → AllRows rows
+    → underParent k rows ≡ pick (ltb (stampAt (parent k) rows) (stamped k rows)) (occurred k rows) 0
 under-stamps k other rows all = rw (stampAt-is (parent k) rows all) (under-stamped k other rows)
 
 pub parent-other : (k : ℕ) → k < rowCount → parent k ≡ k → ⊥

@@ -85,7 +85,8 @@ unfolding among shallower
 among-shallower p n [] = sym (and-false (ltb (level p) n))
 among-shallower p n (x ∷ xs) = go (decLt (level x) n) (ℕ-discrete x p) (among-shallower p n xs)
   where
-    go : Dec (level x < n) → Dec (x ≡ p) → among p (shallower n xs) ≡ (ltb (level p) n && among p xs) → among p (shallower n (x ∷ xs)) ≡ (ltb (level p) n && among p (x ∷ xs))
+    go : Dec (level x < n) → Dec (x ≡ p) → among p (shallower n xs) ≡ (ltb (level p) n && among p xs)
+        → among p (shallower n (x ∷ xs)) ≡ (ltb (level p) n && among p (x ∷ xs))
     go (yes l) (yes e) ih = rw (lt-ltb (level x) n l, eq-eqb x p e, lt-ltb (level p) n (omega (arith, ap level e)))
     go (yes l) (no e) ih = rw (lt-ltb (level x) n l, ne-eqb x p e) ih
     go (no l) (yes e) ih =
@@ -128,12 +129,14 @@ climbs-line r before can row ih p h = open-line p r before ∙ go (decLt (level 
         ∙ ap (climb (level p)) (hung (omega arith))))
     go (no l) = rw (le-ltb (level p) (level r) (omega arith), climb-stop (level p) r (omega arith)) (or-false (eqb r p))
 
-pub open-climb : (before : List ℕ) → Stood before → (p : ℕ) → 1 ≤ level p → isOpen p before ≡ eqb (climb (level p) (last before)) p
+pub open-climb : (before : List ℕ) → Stood before → (p : ℕ) → 1 ≤ level p
+    → isOpen p before ≡ eqb (climb (level p) (last before)) p
 open-climb [] s = climbs-none
 open-climb (r ∷ before) s = climbs-line r before (s .0) (s .2) (open-climb before (s .3))
 
 -- "Between them stand lines of that block whose parent row is open": told by the climb from the last line
-pub hangs-climb : (before : List ℕ) → Stood before → (r : ℕ) → r < rowCount → 2 ≤ level r → hangs r before ≡ eqb (climb (level (parent r)) (last before)) (parent r)
+pub hangs-climb : (before : List ℕ) → Stood before → (r : ℕ) → r < rowCount → 2 ≤ level r
+    → hangs r before ≡ eqb (climb (level (parent r)) (last before)) (parent r)
 unfolding hangs
 hangs-climb before s r row l = open-climb before s (parent r) (omega (arith, up-level r l))
 
@@ -163,7 +166,8 @@ module _ (p : ℕ) (h : 1 ≤ level p) where
   unfolding among
   among-top x t = rw (ancestors-top x t, climb-stop (level p) x (omega arith)) (or-false (eqb x p))
 
-  among-down : (x : ℕ) → 2 ≤ level x → among p (ancestors (parent x)) ≡ eqb (climb (level p) (parent x)) p → among p (ancestors x) ≡ eqb (climb (level p) x) p
+  among-down : (x : ℕ) → 2 ≤ level x → among p (ancestors (parent x)) ≡ eqb (climb (level p) (parent x)) p
+      → among p (ancestors x) ≡ eqb (climb (level p) x) p
   unfolding among
   among-down x d ih = rw (ancestors-on x d, ih) (go (decLt (level p) (level x)))
     where
@@ -171,14 +175,15 @@ module _ (p : ℕ) (h : 1 ≤ level p) where
       go (yes l) = rw (rows-differ x p (λ e. omega arith), climb-on (level p) x h l)
       go (no l) =
           let u = up-level x d in
-          rw (climb-stop (level p) x (omega arith), climb-stop (level p) (parent x) (omega arith), rows-differ (parent x) p (λ e. omega arith))
-          (or-false (eqb x p))
+          let other = rows-differ (parent x) p (λ e. omega arith) in
+          rw (climb-stop (level p) x (omega arith), climb-stop (level p) (parent x) (omega arith), other) (or-false (eqb x p))
 
   among-climb : (x : ℕ) → among p (ancestors x) ≡ eqb (climb (level p) x) p
   among-climb = by-level (λ x. among p (ancestors x) ≡ eqb (climb (level p) x) p) among-top among-down
 
 -- "the open lines are the line before and its ancestors up to the opening"
-pub open-ancestors : (before : List ℕ) → Stood before → (p : ℕ) → 1 ≤ level p → isOpen p before ≡ among p (ancestors (last before))
+pub open-ancestors : (before : List ℕ) → Stood before → (p : ℕ) → 1 ≤ level p
+    → isOpen p before ≡ among p (ancestors (last before))
 open-ancestors before s p h = open-climb before s p h ∙ sym (among-climb p h (last before))
 
 -- from a line of a block that is no closing the climb to level 1 ends at an opening
@@ -191,7 +196,8 @@ climb-opens = by-level (λ x. 1 ≤ level x → isClosing x ≡ false → AtOpen
     at-top : (x : ℕ) → level x ≤ 1 → 1 ≤ level x → isClosing x ≡ false → AtOpening (climb 1 x)
     at-top x t h c = rw (climb-stop 1 x t) (level-row x h, level-one x (level-row x h) (omega arith) c)
 
-    below : (x : ℕ) → 2 ≤ level x → (1 ≤ level (parent x) → isClosing (parent x) ≡ false → AtOpening (climb 1 (parent x))) → 1 ≤ level x → isClosing x ≡ false → AtOpening (climb 1 x)
+    below : (x : ℕ) → 2 ≤ level x → (1 ≤ level (parent x) → isClosing (parent x) ≡ false → AtOpening (climb 1 (parent x)))
+        → 1 ≤ level x → isClosing x ≡ false → AtOpening (climb 1 x)
     below x d ih h c =
         rw (climb-on 1 x (omega arith) d) (ih (omega (arith, up-level x d)) (parent-closing x (level-row x h) d))
 
@@ -218,7 +224,8 @@ module _ (r : ℕ) (row : r < rowCount) (closing : isClosing r ≡ true) where
   ends-climb : (x : ℕ) → eqb (climb 1 x) (opening r) ≡ (eqb (block x) (block r) && not (isClosing x) && ltb 0 (level x))
   ends-climb x = go (decLt 0 (level x)) (isClosing x) refl
     where
-      go : Dec (0 < level x) → (t : Bool) → isClosing x ≡ t → eqb (climb 1 x) (opening r) ≡ (eqb (block x) (block r) && not (isClosing x) && ltb 0 (level x))
+      go : Dec (0 < level x) → (t : Bool) → isClosing x ≡ t
+          → eqb (climb 1 x) (opening r) ≡ (eqb (block x) (block r) && not (isClosing x) && ltb 0 (level x))
       go (no l) t c =
           rw (climb-stop 1 x (omega arith), le-ltb 0 (level x) (omega arith), rows-differ x (opening r) (λ e. omega (arith, one)))
           (sym (and-false (eqb (block x) (block r) && not (isClosing x))))
@@ -230,7 +237,8 @@ module _ (r : ℕ) (row : r < rowCount) (closing : isClosing r ≡ true) where
           (opens-is (climb 1 x) (climb-opens x l c) ∙ ap (λ b. eqb b (block r)) (climb-block 1 (omega arith) x))
 
 -- "The closing line may follow any line of its block": the line before is of its block, no closing, and not 0000 or 9999
-pub ends-last : (before : List ℕ) → Stood before → (r : ℕ) → r < rowCount → isClosing r ≡ true → endsBlock r before ≡ (eqb (block (last before)) (block r) && not (isClosing (last before)) && ltb 0 (level (last before)))
+pub ends-last : (before : List ℕ) → Stood before → (r : ℕ) → r < rowCount → isClosing r ≡ true
+    → endsBlock r before ≡ (eqb (block (last before)) (block r) && not (isClosing (last before)) && ltb 0 (level (last before)))
 unfolding endsBlock
 ends-last before s r row c =
     open-climb before s (opening r) (omega (arith, one r row c))

@@ -12,16 +12,21 @@ use Rattle.layout.specs.Pick.{pick}
 use Rattle.layout.specs.Text.{codeNumber}
 use Rattle.layout.specs.Rows.{none, rowCount, rowOfCode, fields, isClosing}
 use Rattle.layout.specs.Kinds.{kind}
-use Rattle.rules.specs.Bytes.{bar, LF, lines, lineAtHand, field, rowOfWord, rowOf, rows, rowAtHand, bars, word, empty, isEndByte, cut}
+use Rattle.rules.specs.Bytes.{bar, LF, lines, lineAtHand, field, rowOfWord, rowOf}
+use Rattle.rules.specs.Bytes.{rows, rowAtHand, bars, word, empty, isEndByte, cut}
 use Rattle.rules.specs.Order.{canStand, hasRoom, isData}
 use Rattle.rules.specs.Counts.{due}
 use Rattle.rules.specs.Fields.{formOf, states}
-use Rattle.rules.specs.Rules.{clear, rules, firstBroken, fault, inField, pastFields, rowToBe, formAtHand, openedBy, byteLimit}
+use Rattle.rules.specs.Rules.{clear, rules, firstBroken, fault, inField}
+use Rattle.rules.specs.Rules.{pastFields, rowToBe, formAtHand, openedBy, byteLimit}
 use Rattle.rules.proofs.TestLaws.{split, pick-le, pick-clear, broken-clear, then-holds}
 use Rattle.layout.proofs.CodeLaws.{row-of-code-le}
 use Rattle.layout.proofs.RowLaws.{fields-two}
-use Rattle.rules.proofs.ByteLaws.{lines-on, rows-on, bars-on, field-on, row-on, lines-bar, rows-bar, bars-bar, field-bar, row-code, row-later, lines-lf, rows-lf, bars-lf}
-use Rattle.rules.proofs.FaultLaws.{Place, starts, codes, fills, ends, place, past-fields, in-fields, past-late, codeFault, fieldFault, fault-start, fault-byte, fault-past, fault-code-bar, fault-field-bar, code-in}
+use Rattle.rules.proofs.ByteLaws.{lines-on, rows-on, bars-on, field-on, row-on, lines-bar, rows-bar}
+use Rattle.rules.proofs.ByteLaws.{bars-bar, field-bar, row-code, row-later, lines-lf, rows-lf, bars-lf}
+use Rattle.rules.proofs.FaultLaws.{Place, starts, codes, fills, ends, place, past-fields}
+use Rattle.rules.proofs.FaultLaws.{in-fields, past-late, codeFault, fieldFault, fault-start}
+use Rattle.rules.proofs.FaultLaws.{fault-byte, fault-past, fault-code-bar, fault-field-bar, code-in}
 use Rattle.rules.proofs.CleanLaws.{Clean, clean-before, clean-clear, clear-room, clear-rules}
 use Rattle.rules.proofs.Stood.{Stood}
 
@@ -54,7 +59,8 @@ pub word-row-known : (w : List ℕ) → eqb (rowOfWord w) none ≡ false → row
 unfolding rowOfWord
 word-row-known w e =
     let a = eqb-false (rowOfWord w) none e in
-    let h : rowOfWord w ≤ none = pick-le (eqb (length w) 4) (rowOfCode (codeNumber w)) none none (row-of-code-le (codeNumber w)) (omega arith) in
+    let c = codeNumber w in
+    let h : rowOfWord w ≤ none = pick-le (eqb (length w) 4) (rowOfCode c) none none (row-of-code-le c) (omega arith) in
     omega arith
 
 -- a bar after field 1 that breaks no rule gives a row that can stand here
@@ -93,7 +99,8 @@ lf-past seen e = go (place seen)
     in-field : inField seen ≡ true → pastFields seen ≡ true
     in-field i =
         let q = sym (fault-byte seen LF i refl) ∙ e in
-        split (empty (word seen) && isEndByte LF) (λ m. broken-clear 7 (bars seen) (rw m at q)) (λ m. broken-clear 2 (bars seen) (rw m at q))
+        split (empty (word seen) && isEndByte LF) (λ m. broken-clear 7 (bars seen) (rw m at q))
+        (λ m. broken-clear 2 (bars seen) (rw m at q))
 
     go : Place seen → pastFields seen ≡ true
     go (starts z) = broken-clear 1 0 (sym (fault-start seen LF z) ∙ e)
@@ -140,7 +147,9 @@ module _ (seen : List ℕ) (e : firstBroken rules seen bar ≡ clear) where
     where
       go : Place seen → suc (bars seen) ≤ suc (fields (rowAtHand (bar ∷ seen)))
       go (starts z) = omega arith
-      go (codes d) = rw (row-code seen d) (omega (arith, fields-two (rowToBe seen) (code-known seen (sym (fault-code-bar seen d) ∙ e) .0)))
+      go (codes d) =
+          let known = code-known seen (sym (fault-code-bar seen d) ∙ e) in
+          rw (row-code seen d) (omega (arith, fields-two (rowToBe seen) (known .0)))
       go (fills l i) = rw (row-later seen l) (omega (arith, in-fields seen i))
       go (ends l p) = bar-past p
 
@@ -178,7 +187,9 @@ module _ (seen : List ℕ) (b : ℕ) (plain : eqb b LF ≡ false) (inner : eqb b
         passed = rw (lines-on seen b plain) (s .passed);
         known = rw (rows-on seen b plain, row-on seen b plain inner, bars-on seen b plain inner) (s .known);
         within = rw (row-on seen b plain inner, bars-on seen b plain inner) (s .within);
-        passing = λ n h l. rw (rows-on seen b plain, row-on seen b plain inner, field-on seen b plain inner n) (s .passing n h (rw (bars-on seen b plain inner) at l));
+        passing = λ n h l.
+            rw (rows-on seen b plain, row-on seen b plain inner, field-on seen b plain inner n)
+            (s .passing n h (rw (bars-on seen b plain inner) at l));
         short = small;
       }
 
@@ -188,7 +199,8 @@ sound-next seen b s c =
     let small = clear-room seen b c in
     let e = clear-rules seen b c in
     split (eqb b LF) (λ t. let p = eqb-true b LF t in rw p (sound-lf seen s small (rw p at e)))
-    (λ t. split (eqb b bar) (λ u. let p = eqb-true b bar u in rw p (sound-bar seen (rw p at e) s small)) (λ u. sound-on seen b t u s small))
+    (λ t. split (eqb b bar) (λ u. let p = eqb-true b bar u in rw p (sound-bar seen (rw p at e) s small))
+    (λ u. sound-on seen b t u s small))
 
 sound-start : Sound []
 unfolding rows lines lineAtHand bars cut

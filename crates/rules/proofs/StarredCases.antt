@@ -14,5 +14,21 @@ use Rattle.rules.specs.Verdict.{finalOf}
 use Rattle.rules.specs.Cases.{cases, fileOf}
 
 pub starred-cases : map (λ c. finalOf (c .file)) cases ≡ map (λ c. c .answer) cases
-unfolding cases fileOf Text.bytes Text.codeNumber Text.textNumber Rows.rowTable Rows.listed Rows.code Rows.fields Rows.level Rows.occurrence Rows.limit Rows.blockLetters Rows.placeOf Rows.block Rows.isOpening Rows.isClosing Rows.lastAmong Rows.parent Rows.opening Rows.rowFrom Rows.rowOfCode Kinds.sheets Kinds.sheetOr Kinds.kindsOf Kinds.kind Bytes.cut Bytes.lines Bytes.lineAtHand Bytes.part Bytes.field Bytes.rowOfWord Bytes.rowOf Bytes.rows Bytes.rowAtHand Bytes.bars Bytes.word Bytes.empty Bytes.isEndByte Order.last Order.shallower Order.openRows Order.among Order.isOpen Order.startsFile Order.startsBlock Order.endsBlock Order.endsFile Order.hangs Order.canStand Order.underParent Order.hasRoom Order.isData Counts.linesOfRow Counts.linesOfBlock Counts.due Fields.isDigit Fields.allDigits Fields.value Fields.isDecimal Fields.isLeapYear Fields.daysOf Fields.isDate Fields.sameBytes Fields.isText Fields.formOf Fields.states Rules.inField Rules.pastFields Rules.isCodeBar Rules.rowToBe Rules.isFieldBar Rules.formAtHand Rules.breaks1 Rules.breaks2 Rules.breaks3 Rules.breaks4 Rules.breaks5 Rules.openedBy Rules.breaks6 Rules.breaks7 Rules.breaks8 Rules.breaks9 Rules.breaks10 Rules.breaks11 Rules.breaks12 Rules.breaks13 Rules.isLastLine Rules.finished Rules.full Rules.rules Rules.firstBroken Rules.faultBy Rules.fault Verdict.judged Verdict.verdictAfter Verdict.verdict Verdict.finishAfter Verdict.finishVerdict Verdict.finalOf
+unfolding cases fileOf
+    Text.bytes Text.codeNumber Text.textNumber
+    Rows.rowTable Rows.listed Rows.code Rows.fields Rows.level Rows.occurrence Rows.limit Rows.blockLetters Rows.placeOf
+    Rows.block Rows.isOpening Rows.isClosing Rows.lastAmong Rows.parent Rows.opening Rows.rowFrom Rows.rowOfCode
+    Kinds.sheets Kinds.sheetOr Kinds.kindsOf Kinds.kind
+    Bytes.cut Bytes.lines Bytes.lineAtHand Bytes.part Bytes.field Bytes.rowOfWord Bytes.rowOf Bytes.rows Bytes.rowAtHand
+    Bytes.bars Bytes.word Bytes.empty Bytes.isEndByte
+    Order.last Order.shallower Order.openRows Order.among Order.isOpen Order.startsFile Order.startsBlock Order.endsBlock
+    Order.endsFile Order.hangs Order.canStand Order.underParent Order.hasRoom Order.isData
+    Counts.linesOfRow Counts.linesOfBlock Counts.due
+    Fields.isDigit Fields.allDigits Fields.value Fields.isDecimal Fields.isLeapYear Fields.daysOf Fields.isDate Fields.sameBytes
+    Fields.isText Fields.formOf Fields.states
+    Rules.inField Rules.pastFields Rules.isCodeBar Rules.rowToBe Rules.isFieldBar Rules.formAtHand Rules.breaks1 Rules.breaks2
+    Rules.breaks3 Rules.breaks4 Rules.breaks5 Rules.openedBy Rules.breaks6 Rules.breaks7 Rules.breaks8 Rules.breaks9
+    Rules.breaks10 Rules.breaks11 Rules.breaks12 Rules.breaks13 Rules.isLastLine Rules.finished Rules.full Rules.rules
+    Rules.firstBroken Rules.faultBy Rules.fault
+    Verdict.judged Verdict.verdictAfter Verdict.verdict Verdict.finishAfter Verdict.finishVerdict Verdict.finalOf
 starred-cases = refl

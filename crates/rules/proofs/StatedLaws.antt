@@ -54,12 +54,14 @@ Opened (line ∷ before) = Opens (rowOf line) (field 2 line) × Opened before
 all-stated : (ls : List (List ℕ)) → Stood (map rowOf ls) → AllPassed ls → Stated ls
 all-stated [] s p = tt
 all-stated (line ∷ before) s p =
-    (count-states (rowOf line) (map rowOf before) (field 2 line) (p .0 2 (omega arith) (fields-two (rowOf line) (s .2))), all-stated before (s .3) (p .1))
+    let second = p .0 2 (omega arith) (fields-two (rowOf line) (s .2)) in
+    (count-states (rowOf line) (map rowOf before) (field 2 line) second, all-stated before (s .3) (p .1))
 
 all-opened : (ls : List (List ℕ)) → Stood (map rowOf ls) → AllPassed ls → Opened ls
 all-opened [] s p = tt
 all-opened (line ∷ before) s p =
-    (opening-is (rowOf line) (map rowOf before) (field 2 line) (p .0 2 (omega arith) (fields-two (rowOf line) (s .2))), all-opened before (s .3) (p .1))
+    let second = p .0 2 (omega arith) (fields-two (rowOf line) (s .2)) in
+    (opening-is (rowOf line) (map rowOf before) (field 2 line) second, all-opened before (s .3) (p .1))
 
 module _ (seen : List ℕ) (s : Sound seen) where
   pub stated : Stated (lines seen)

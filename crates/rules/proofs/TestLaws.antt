@@ -1,4 +1,4 @@
--- Tests: a proof by a test's two values, what `&&` says of its parts, `pick` under a function, and a chain of rules that is clear.
+-- Tests: a proof by a test's two values, what `&&` says of its parts, `pick` under a function, a chain of rules that is clear.
 use mathlib.Core.Path.{_≡_, _∙_, refl, sym}
 use mathlib.Core.Bool.{Bool, true, false, not, _&&_}
 use Prim.Native.Nat.{ℕ, _≤_}

@@ -5,7 +5,8 @@ use mathlib.Core.List.{List, [], _∷_}
 use Prim.Native.Nat.{ℕ, suc}
 use lib.Dec.{eqb, leb, ltb}
 use Rattle.layout.specs.Pick.{pick}
-use Rattle.layout.specs.Rows.{none, anyNumber, level, limit, block, isOpening, isClosing, parent, opening, row0000, row9990, row9999}
+use Rattle.layout.specs.Rows.{none, anyNumber, level, limit, block, isOpening, isClosing, parent, opening}
+use Rattle.layout.specs.Rows.{row0000, row9990, row9999}
 
 -- the row of the line before; none where there is no line before
 unfoldable pub last : List ℕ → ℕ

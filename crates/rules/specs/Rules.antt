@@ -146,7 +146,9 @@ pub data Fault : Type 0 where
 -- "if it breaks several, the lowest number does": the first of the rules, which stand in this order
 unfoldable pub firstBroken : List Rule → List ℕ → ℕ → Fault
 firstBroken [] seen b = clear
-firstBroken (r ∷ rs) seen b = let rest = firstBroken rs seen b in pick (r .broken seen b) (breaks (r .number) (r .names seen)) rest
+firstBroken (r ∷ rs) seen b =
+    let rest = firstBroken rs seen b in
+    pick (r .broken seen b) (breaks (r .number) (r .names seen)) rest
 
 -- "except that 16 goes before all. After 9999's LF a byte gets only 15 or 16."
 unfoldable pub faultBy : List Rule → List ℕ → ℕ → Fault
