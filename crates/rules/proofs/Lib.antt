@@ -16,3 +16,4 @@ pub mod StatedLaws
 pub mod TotalLaws
 pub mod FollowsLaws
 pub mod StarredCases
+pub mod BareCases

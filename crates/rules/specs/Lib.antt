@@ -7,3 +7,4 @@ pub mod Verdict
 pub mod Totals
 pub mod Follows
 pub mod Cases
+pub mod BareCases

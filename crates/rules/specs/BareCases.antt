@@ -1,0 +1,82 @@
+-- 01, "Both sides of each rule": starred cases and others, each for one rule, without the bytes around it. The starred cases
+-- are whole files (Cases); these are short enough that a check which refuses one prints the two numbers that differ.
+use mathlib.Core.List.{List, [], _∷_, map, reverse}
+use Prim.Native.Nat.{ℕ}
+use Prim.Native.String.{String}
+use Rattle.layout.specs.Pick.{pick}
+use Rattle.layout.specs.Text.{bytes, textNumber}
+use Rattle.layout.specs.Rows.{rowOfCode}
+use Rattle.layout.specs.Kinds.{date}
+use Rattle.rules.specs.Bytes.{bar, CR, LF}
+use Rattle.rules.specs.Order.{canStand, hasRoom}
+use Rattle.rules.specs.Counts.{due}
+use Rattle.rules.specs.Fields.{formOf}
+use Rattle.rules.specs.Rules.{Fault, clear, breaks, rules, firstBroken}
+
+-- the number that 01 says, and the one that the definitions give
+pub record Bare : Type 0 where
+  pub says : ℕ
+  pub given : ℕ
+
+abbrev case : ℕ → ℕ → Bare
+case says given = record { says = says; given = given }
+
+-- a line by its code; the lines before it, the first of them first
+unfoldable pub rowNamed : String → ℕ
+rowNamed code = rowOfCode (textNumber code)
+
+unfoldable pub rowsNamed : List String → List ℕ
+rowsNamed codes = reverse (map rowNamed codes)
+
+-- of rules 4 and 6 the one that a line breaks after these lines; 0 where it is in place
+unfoldable pub placed : List String → String → ℕ
+placed before code =
+    pick (canStand (rowNamed code) (rowsNamed before)) (pick (hasRoom (rowNamed code) (rowsNamed before)) 0 6) 4
+
+-- what field 2 of a closing, or of 9999, must state after these lines
+unfoldable pub dueAfter : List String → String → ℕ
+dueAfter before code = due (rowNamed code) (rowsNamed before)
+
+unfoldable pub lineCases : List Bare
+lineCases =
+    -- 0175 right after 0001: 4
+    case 4 (placed ("0001" ∷ []) "0175") ∷
+    -- second 0175 under one 0150: 6; one under each of two: in place
+    case 6 (placed ("0001" ∷ "0150" ∷ "0175" ∷ []) "0175") ∷
+    case 0 (placed ("0001" ∷ "0150" ∷ "0175" ∷ "0150" ∷ []) "0175") ∷
+    -- C310 after C300, C305: in place; C615 under C300: 4
+    case 0 (placed ("C001" ∷ "C020" ∷ "C300" ∷ "C305" ∷ []) "C310") ∷
+    case 4 (placed ("C001" ∷ "C020" ∷ "C300" ∷ []) "C615") ∷
+    -- F225 after a second F215 with no new F220: 4
+    case 4 (placed ("F001" ∷ "F200" ∷ "F210" ∷ "F215" ∷ "F220" ∷ "F215" ∷ []) "F225") ∷
+    -- block H, then E001: 4
+    case 4 (placed ("H001" ∷ "H990" ∷ []) "E001") ∷
+    -- the counts of Base
+    case 3 (dueAfter ("0000" ∷ "0001" ∷ []) "0990") ∷
+    case 3 (dueAfter ("0000" ∷ "0001" ∷ "0990" ∷ "9001" ∷ []) "9990") ∷
+    case 6 (dueAfter ("0000" ∷ "0001" ∷ "0990" ∷ "9001" ∷ "9990" ∷ []) "9999") ∷
+    []
+
+-- the rule that a byte breaks after these bytes of its line; 0 where it breaks none
+unfoldable pub numberOf : Fault → ℕ
+numberOf clear = 0
+numberOf (breaks number field) = number
+
+unfoldable pub brokenAfter : String → ℕ → ℕ
+brokenAfter line b = numberOf (firstBroken rules (reverse (bytes line)) b)
+
+-- rule 12 of a date; 0 where there is such a date
+unfoldable pub dated : String → ℕ
+dated text = pick (formOf date .content (reverse (bytes text))) 0 12
+
+unfoldable pub byteCases : List Bare
+byteCases =
+    -- CR for field 2: 7; one bar more: 8; no last bar: 2; no CR: 9
+    case 7 (brokenAfter "|0001|" CR) ∷
+    case 8 (brokenAfter "|0001|1|" bar) ∷
+    case 2 (brokenAfter "|0001|1" CR) ∷
+    case 9 (brokenAfter "|0001|1|" LF) ∷
+    -- 29022011: 12; 29022012: a date
+    case 12 (dated "29022011") ∷
+    case 0 (dated "29022012") ∷
+    []
