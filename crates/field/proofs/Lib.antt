@@ -5,3 +5,4 @@ pub mod TextLaws
 pub mod DecimalLaws
 pub mod FaultLaws
 pub mod OpeningLaws
+pub mod BareCases

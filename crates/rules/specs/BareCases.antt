@@ -18,7 +18,7 @@ pub record Bare : Type 0 where
   pub says : ℕ
   pub given : ℕ
 
-abbrev case : ℕ → ℕ → Bare
+abbrev pub case : ℕ → ℕ → Bare
 case says given = record { says = says; given = given }
 
 -- a line by its code; the lines before it, the first of them first
