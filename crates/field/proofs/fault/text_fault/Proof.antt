@@ -1,6 +1,6 @@
 -- `fault::text_fault` meets its contract.
 use native.Mathlib.Omega.{arith}
-use borrow.Author.Tests.{eq-eqb, lt-ltb, le-ltb}
+use borrow.Author.Tests.{lt-ltb}
 use Rattle.field.specs.Streaming.{textFault}
 use Rattle.field.proofs.Picks.{called}
 use borrow.Author.Needs.{needs}
@@ -15,9 +15,7 @@ returns c =
 
 returns-2 : tie.Need-returns-2
 unfolding textFault
-returns-2 c =
-    let start = c .before .before .before in
-    rw (le-ltb (start .args .size) (start .args .f .length) (omega arith), eq-eqb _ _ (c .if2 .taken))
+returns-2 c = search called depth 12
 
 is-fixed-requires : tie.Need-is-fixed-requires
 is-fixed-requires c κs = search needs

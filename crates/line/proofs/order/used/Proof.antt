@@ -1,6 +1,9 @@
+use mathlib.Core.Path.{_∙_, ap}
+use native.Mathlib.Omega.{arith}
 use borrow.Author.Needs.{needs}
 use borrow.Author.Tests.{lt-ltb, le-ltb}
-use Rattle.line.specs.Machine.{usedOf}
+use Rattle.layout.specs.Rows.{parent}
+use Rattle.line.specs.Machine.{entryOf, usedOf}
 use Rattle.line.proofs.order.used.Statement.{statement}
 use Rattle.line.proofs.order.used.Tie as tie
 
@@ -19,22 +22,19 @@ entry-requires-3 c κs = search needs
 returns : tie.Need-returns
 unfolding usedOf
 returns c =
-    rw (
-      ← c .before .before .before .before .parent-at .ensures,
-      ← c .before .before .before .entry .ensures,
-      ← c .before .before .entry2 .ensures,
-      lt-ltb _ _ (c .before .if1 .taken),
-    ) (c .entry3 .ensures)
+    let start = c .before .before .before .before .before in
+    let stamp = entryOf (start .args .stamps .now) in
+    let above = c .before .before .before .entry .ensures ∙ ap stamp (c .before .before .before .before .parent-at .ensures) in
+    rw (lt-ltb (stamp (parent (start .args .r))) (stamp (start .args .r)) (omega (arith, above, c .before .before .entry2 .ensures)))
+    (c .entry3 .ensures)
 
 returns-2 : tie.Need-returns-2
 unfolding usedOf
 returns-2 c =
-    rw (
-      ← c .before .before .before .parent-at .ensures,
-      ← c .before .before .entry .ensures,
-      ← c .before .entry2 .ensures,
-      le-ltb _ _ (c .if1 .left),
-    )
+    let start = c .before .before .before .before in
+    let stamp = entryOf (start .args .stamps .now) in
+    let above = c .before .before .entry .ensures ∙ ap stamp (c .before .before .before .parent-at .ensures) in
+    rw (le-ltb (stamp (parent (start .args .r))) (stamp (start .args .r)) (omega (arith, above, c .before .entry2 .ensures)))
 
 pub used-spec : {M : Type 1} → statement M
 used-spec =

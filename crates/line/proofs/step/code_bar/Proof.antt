@@ -1,6 +1,7 @@
 use borrow.Author.Needs.{needs}
-use Rattle.line.specs.Machine.{codeBarOf}
-use Rattle.line.proofs.Steps.{steps}
+use borrow.Author.Tests.{ne-eqb, not-false}
+use Rattle.line.specs.Machine.{codeBarOf, movedOf}
+use Rattle.line.proofs.Steps.{next, steps}
 use Rattle.line.proofs.step.code_bar.Statement.{statement}
 use Rattle.line.proofs.step.code_bar.Tie as tie
 
@@ -40,7 +41,26 @@ moved-requires c κs = search needs
 
 returns-5 : tie.Need-returns-5
 unfolding codeBarOf
-returns-5 c = rw (← c .before .kind-of .ensures, ← c .before .before .fields-at .ensures) (search steps depth 12)
+returns-5 c =
+    let fields = c .before .before in
+    let room = fields .before .before in
+    let says = room .before .before in
+    let stand = says .before .before in
+    let start = stand .before .before in
+    rw (
+      ne-eqb _ _ (stand .before .if1 .left),
+      ← stand .stands .ensures,
+      not-false (stand .stands .result) (says .before .if2 .left),
+      ← says .misplaced .ensures,
+      room .before .if3 .left,
+      ← room .has-room .ensures,
+      not-false (room .has-room .result) (fields .before .if4 .left),
+      ← fields .fields-at .ensures,
+      ← c .before .kind-of .ensures,
+    )
+    (next (c .moved .result)
+    (movedOf (start .args .h) (start .args .r) (fields .fields-at .result) (c .before .kind-of .result) 0)
+    (c .moved .ensures))
 
 pub code-bar-spec : {M : Type 1} → statement M
 code-bar-spec =

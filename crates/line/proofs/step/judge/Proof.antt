@@ -1,5 +1,7 @@
 use borrow.Author.Needs.{needs}
 use native.Mathlib.Omega.{arith}
+use borrow.Author.Tests.{le-leb}
+use Rattle.rules.specs.Rules.{byteLimit}
 use Rattle.line.specs.Machine.{stepOf, inFieldOf}
 use Rattle.line.proofs.Steps.{steps}
 use Rattle.line.proofs.step.judge.Statement.{statement}
@@ -7,7 +9,7 @@ use Rattle.line.proofs.step.judge.Tie as tie
 
 returns : tie.Need-returns
 unfolding stepOf
-returns c = search steps depth 12
+returns c = rw (le-leb byteLimit (c .before .before .args .h .bytes) (omega arith))
 
 first-requires : tie.Need-first-requires
 first-requires c κs = search needs

@@ -1,6 +1,9 @@
 use borrow.Author.Needs.{needs}
+use native.Mathlib.Omega.{arith}
+use borrow.Author.Tests.{eq-eqb, ne-eqb}
+use Rattle.rules.specs.Bytes.{LF}
 use Rattle.line.specs.Machine.{pastOf}
-use Rattle.line.proofs.Steps.{steps}
+use Rattle.line.proofs.Steps.{next, steps}
 use Rattle.line.proofs.step.past.Statement.{statement}
 use Rattle.line.proofs.step.past.Tie as tie
 
@@ -9,11 +12,16 @@ ended-requires c κs = search needs
 
 returns : tie.Need-returns
 unfolding pastOf
-returns c = search steps depth 12
+returns c =
+    let start = c .before .before .before .before .before in
+    rw (ne-eqb (start .args .h .field .length) 0 (λ e. omega arith), eq-eqb (start .args .b) LF (omega arith))
+    (next _ _ (c .ended .ensures))
 
 returns-2 : tie.Need-returns-2
 unfolding pastOf
-returns-2 c = search steps depth 12
+returns-2 c =
+    let start = c .before .before .before .before in
+    rw (ne-eqb (start .args .h .field .length) 0 (λ e. omega arith), ne-eqb (start .args .b) LF (λ e. omega arith))
 
 grown-requires : tie.Need-grown-requires
 grown-requires c κs = search needs
