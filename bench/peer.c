@@ -640,7 +640,7 @@ static void judge(struct checker *c, place bytes, uint64_t length)
 
 /* --------------------------------------------------------------- the calls */
 
-enum result { STILL_OPEN, IS_ACCEPTED, IS_REFUSED };
+enum result { STILL_OPEN, IS_ACCEPTED, IS_REFUSED, IS_REPORTED };
 
 struct answer {
     enum result result;
@@ -661,6 +661,7 @@ static struct answer answer(const struct checker *c, enum result result)
 }
 
 static const struct answer after_finish = {IS_REFUSED, 17, 0, 0, 0, 0};
+static const struct answer too_little_room = {IS_REFUSED, 18, 0, 0, 0, 0};
 
 static struct answer piece(struct checker *c, place bytes, size_t length)
 {
@@ -687,13 +688,12 @@ static struct answer finish(struct checker *c)
     return answer(c, IS_ACCEPTED);
 }
 
-/* 0, or 18 where there is room for too few counts. */
-static unsigned report(const struct checker *c, uint32_t *counts, size_t room)
+static struct answer report(const struct checker *c, uint32_t *counts, size_t room)
 {
     if (room < ROW_NONE)
-        return 18;
+        return too_little_room;
     memcpy(counts, c->counts, sizeof c->counts);
-    return 0;
+    return (struct answer){IS_REPORTED, 0, 0, 0, c->lines, c->bytes};
 }
 
 /* ------------------------------------------------------------ the programs */
@@ -732,12 +732,12 @@ static void print_answer(struct answer a)
 static void print_report(size_t room)
 {
     uint32_t counts[ROW_NONE];
-    unsigned number = report(&checker, counts, room);
-    if (number != 0) {
-        printf("room %u\n", number);
+    struct answer a = report(&checker, counts, room);
+    if (a.result == IS_REFUSED) {
+        print_answer(a);
         return;
     }
-    printf("counts");
+    printf("counts %u %" PRIu64, a.lines, a.bytes);
     for (size_t i = 0; i < ROW_NONE; i++)
         printf(" %" PRIu32, counts[i]);
     printf("\n");

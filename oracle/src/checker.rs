@@ -1,7 +1,7 @@
 //! Pieces as they come in: each answer is the verdict of the joined bytes,
 //! until finish has been asked.
 
-use crate::verdict::{counts, finish, verdict, Final, Verdict};
+use crate::verdict::{finish, judgement, verdict, Final, Verdict};
 
 #[derive(Clone, Copy, Debug, PartialEq, Eq)]
 pub enum Answer {
@@ -10,9 +10,42 @@ pub enum Answer {
     Refused { number: u8, line: u64, field: u64, lines: u64, bytes: u64 },
 }
 
-/// 17 and 18 name no place and no numbers.
-const fn misuse(number: u8) -> Answer {
-    Answer::Refused { number, line: 0, field: 0, lines: 0, bytes: 0 }
+impl Answer {
+    /// 17 and 18 name no place and no numbers.
+    pub const fn misuse(number: u8) -> Answer {
+        Answer::Refused { number, line: 0, field: 0, lines: 0, bytes: 0 }
+    }
+
+    /// Lines ended and bytes judged.
+    pub fn lines_and_bytes(self) -> (u64, u64) {
+        match self {
+            Answer::Open { lines, bytes }
+            | Answer::Accepted { lines, bytes }
+            | Answer::Refused { lines, bytes, .. } => (lines, bytes),
+        }
+    }
+}
+
+impl From<Verdict> for Answer {
+    fn from(verdict: Verdict) -> Answer {
+        match verdict {
+            Verdict::Open { lines, bytes } => Answer::Open { lines, bytes },
+            Verdict::Refused { number, line, field, lines, bytes } => {
+                Answer::Refused { number, line, field, lines, bytes }
+            }
+        }
+    }
+}
+
+impl From<Final> for Answer {
+    fn from(answer: Final) -> Answer {
+        match answer {
+            Final::Accepted { lines, bytes } => Answer::Accepted { lines, bytes },
+            Final::Refused { number, line, field, lines, bytes } => {
+                Answer::Refused { number, line, field, lines, bytes }
+            }
+        }
+    }
 }
 
 #[derive(Default)]
@@ -24,37 +57,28 @@ pub struct Checker {
 impl Checker {
     pub fn piece(&mut self, piece: &[u8]) -> Answer {
         if self.finished {
-            return misuse(17);
+            return Answer::misuse(17);
         }
         self.joined.extend_from_slice(piece);
-        match verdict(&self.joined) {
-            Verdict::Open { lines, bytes } => Answer::Open { lines, bytes },
-            Verdict::Refused { number, line, field, lines, bytes } => {
-                Answer::Refused { number, line, field, lines, bytes }
-            }
-        }
+        verdict(&self.joined).into()
     }
 
     pub fn finish(&mut self) -> Answer {
         if self.finished {
-            return misuse(17);
+            return Answer::misuse(17);
         }
         self.finished = true;
-        match finish(&self.joined) {
-            Final::Accepted { lines, bytes } => Answer::Accepted { lines, bytes },
-            Final::Refused { number, line, field, lines, bytes } => {
-                Answer::Refused { number, line, field, lines, bytes }
-            }
-        }
+        finish(&self.joined).into()
     }
 
-    /// Writes the 98 counts into the first places of the lent buffer, or gives
-    /// 18 and writes nothing.
-    pub fn report(&self, room: &mut [u64]) -> Option<Answer> {
+    /// Writes the 98 counts into the first places of the lent buffer and gives
+    /// lines ended and bytes judged, or gives 18 and writes nothing.
+    pub fn report(&self, room: &mut [u64]) -> Result<(u64, u64), Answer> {
         if room.len() < 98 {
-            return Some(misuse(18));
+            return Err(Answer::misuse(18));
         }
-        room[..98].copy_from_slice(&counts(&self.joined));
-        None
+        let judged = judgement(&self.joined);
+        room[..98].copy_from_slice(&judged.counts);
+        Ok(Answer::from(judged.verdict).lines_and_bytes())
     }
 }

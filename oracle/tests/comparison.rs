@@ -57,7 +57,7 @@ fn the_oracle_equals_itself() {
 #[test]
 fn every_fault_is_caught() {
     let faults = faults();
-    assert_eq!(faults.len(), 49);
+    assert_eq!(faults.len(), 54);
     for fault in faults.iter().filter(|fault| !SEEN_IN_LONG_RUNS.contains(&fault.as_str())) {
         assert_caught(fault, &["--cases", "300"]);
     }

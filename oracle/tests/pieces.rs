@@ -41,7 +41,8 @@ fn pieces_of_generated_files() {
         assert_eq!(checker.piece(b""), AFTER_FINISH);
         assert_eq!(checker.finish(), AFTER_FINISH);
         let mut room = [7; 100];
-        assert_eq!(checker.report(&mut room), None);
+        let numbers = of_verdict(verdict(&bytes)).lines_and_bytes();
+        assert_eq!(checker.report(&mut room), Ok(numbers));
         assert_eq!(room[..98], counts(&bytes));
         assert_eq!(room[98..], [7, 7]);
     }
@@ -74,7 +75,36 @@ fn report_with_too_little_room() {
     checker.piece(&file(&BASE[..2]));
     let mut room = [7; 97];
     let too_little = Answer::Refused { number: 18, line: 0, field: 0, lines: 0, bytes: 0 };
-    assert_eq!(checker.report(&mut room), Some(too_little));
+    assert_eq!(checker.report(&mut room), Err(too_little));
     assert_eq!(room, [7; 97]);
     assert_eq!(checker.piece(b""), Answer::Open { lines: 2, bytes: file(&BASE[..2]).len() as u64 });
+}
+
+/// Lines ended and bytes judged, the refusing byte included and those after it
+/// not, before and after finish.
+#[test]
+fn numbers_of_reports() {
+    let base = file(&BASE);
+    let two_lines = file(&BASE[..2]);
+    let refused = [&two_lines[..], b"x|0990|3|\r\n"].concat();
+    let length = two_lines.len() as u64;
+    for (bytes, numbers) in [
+        (&b""[..], (0, 0)),
+        (b"|00", (0, 3)),
+        (b"x|", (0, 1)),
+        (&two_lines, (2, length)),
+        (&refused, (2, length + 1)),
+        (&base[..109], (5, 109)),
+        (&base, (6, 110)),
+    ] {
+        let mut checker = Checker::default();
+        let mut room = [0; 98];
+        checker.piece(bytes);
+        assert_eq!(checker.report(&mut room), Ok(numbers));
+        checker.finish();
+        assert_eq!(checker.report(&mut room), Ok(numbers));
+        checker.piece(b"|");
+        assert_eq!(checker.report(&mut room), Ok(numbers));
+        assert_eq!(room.iter().sum::<u64>(), numbers.0);
+    }
 }

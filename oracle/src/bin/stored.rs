@@ -1,5 +1,6 @@
 //! stored SEED COUNT STDIN STDOUT: writes a batch of small cases as commands
 //! to the file STDIN, and the answers expected to the file STDOUT.
+//! `stored 11 200` makes those in crates/pieces.
 
 use oracle::compare::{expected_texts, Plan};
 use std::fs;

@@ -3,8 +3,8 @@
 //! its rounds feed the same bytes again and again.
 
 use super::command::Command;
-use super::text::{answer_text, counts_text, room_text};
-use crate::{judgement, Answer, Final, Judgement, Verdict};
+use super::text::{answer_text, counts_text};
+use crate::{judgement, Answer, Judgement};
 use std::collections::HashMap;
 
 /// The answers to a case's commands, in order; `New` has none.
@@ -33,8 +33,6 @@ struct Expected {
     known: HashMap<Vec<u8>, Judgement>,
 }
 
-const AFTER_FINISH: Answer = Answer::Refused { number: 17, line: 0, field: 0, lines: 0, bytes: 0 };
-
 impl Expected {
     fn answer(&mut self, command: &Command) -> Option<String> {
         match command {
@@ -43,17 +41,23 @@ impl Expected {
                 self.finished = false;
                 None
             }
-            Command::Piece(_) | Command::Finish if self.finished => Some(answer_text(AFTER_FINISH)),
+            Command::Piece(_) | Command::Finish if self.finished => {
+                Some(answer_text(Answer::misuse(17)))
+            }
             Command::Piece(piece) => {
                 self.joined.extend_from_slice(piece);
-                Some(answer_text(of_verdict(self.judgement().verdict)))
+                Some(answer_text(self.judgement().verdict.into()))
             }
             Command::Finish => {
                 self.finished = true;
-                Some(answer_text(of_final(self.judgement().at_finish)))
+                Some(answer_text(self.judgement().at_finish.into()))
             }
-            Command::Counts => Some(counts_text(&self.judgement().counts)),
-            Command::ShortCounts => Some(room_text(18)),
+            Command::Counts => {
+                let judged = self.judgement();
+                let (lines, bytes) = Answer::from(judged.verdict).lines_and_bytes();
+                Some(counts_text(lines, bytes, &judged.counts))
+            }
+            Command::ShortCounts => Some(answer_text(Answer::misuse(18))),
         }
     }
 
@@ -62,24 +66,6 @@ impl Expected {
             self.known.insert(self.joined.clone(), judgement(&self.joined));
         }
         &self.known[&self.joined]
-    }
-}
-
-fn of_verdict(verdict: Verdict) -> Answer {
-    match verdict {
-        Verdict::Open { lines, bytes } => Answer::Open { lines, bytes },
-        Verdict::Refused { number, line, field, lines, bytes } => {
-            Answer::Refused { number, line, field, lines, bytes }
-        }
-    }
-}
-
-fn of_final(answer: Final) -> Answer {
-    match answer {
-        Final::Accepted { lines, bytes } => Answer::Accepted { lines, bytes },
-        Final::Refused { number, line, field, lines, bytes } => {
-            Answer::Refused { number, line, field, lines, bytes }
-        }
     }
 }
 
@@ -93,20 +79,25 @@ mod tests {
 
     #[test]
     fn answers_of_a_short_checker() {
-        let zeros = counts_text(&[0; 98]);
+        let zeros = " 0".repeat(98);
+        let (at_3, at_1) = (format!("counts 0 3{zeros}"), format!("counts 0 1{zeros}"));
         let commands = [
             (Command::New, ""),
             (piece("|00"), "open 0 3"),
-            (Command::ShortCounts, "room 18"),
+            (Command::ShortCounts, "refused 18 0 0 0 0"),
             (piece(""), "open 0 3"),
-            (Command::Counts, &zeros),
+            (Command::Counts, &at_3),
             (Command::Finish, "refused 14 1 0 0 3"),
             (piece("00|"), "refused 17 0 0 0 0"),
             (Command::Finish, "refused 17 0 0 0 0"),
+            (Command::Counts, &at_3),
+            (Command::ShortCounts, "refused 18 0 0 0 0"),
             (Command::New, ""),
             (piece("x|"), "refused 1 1 0 0 1"),
             (piece("|"), "refused 1 1 0 0 1"),
+            (Command::Counts, &at_1),
             (Command::Finish, "refused 1 1 0 0 1"),
+            (Command::Counts, &at_1),
         ];
         let (commands, texts): (Vec<Command>, Vec<&str>) = commands.into_iter().unzip();
         let wanted: Vec<&str> = texts.into_iter().filter(|text| !text.is_empty()).collect();

@@ -12,13 +12,10 @@ pub fn answer_text(answer: Answer) -> String {
     }
 }
 
-pub fn counts_text(counts: &[u64]) -> String {
-    counts.iter().fold("counts".to_string(), |text, count| text + " " + &count.to_string())
-}
-
-/// The refusal of a report with too little room.
-pub fn room_text(number: u8) -> String {
-    format!("room {number}")
+/// A report: lines ended, bytes judged, then the counts.
+pub fn counts_text(lines: u64, bytes: u64, counts: &[u64]) -> String {
+    let start = format!("counts {lines} {bytes}");
+    counts.iter().fold(start, |text, count| text + " " + &count.to_string())
 }
 
 #[cfg(test)]
@@ -31,7 +28,7 @@ mod tests {
         assert_eq!(answer_text(Answer::Accepted { lines: 6, bytes: 110 }), "accepted 6 110");
         let refused = Answer::Refused { number: 13, line: 3, field: 2, lines: 2, bytes: 77 };
         assert_eq!(answer_text(refused), "refused 13 3 2 2 77");
-        assert_eq!(counts_text(&[1, 0, 12]), "counts 1 0 12");
-        assert_eq!(room_text(18), "room 18");
+        assert_eq!(answer_text(Answer::misuse(18)), "refused 18 0 0 0 0");
+        assert_eq!(counts_text(13, 700, &[1, 0, 12]), "counts 13 700 1 0 12");
     }
 }

@@ -11,11 +11,16 @@ pub struct Fault {
     pub sees: fn(&[u8]) -> Vec<u8>,
     /// What it says, given all bytes and the answer for those it saw.
     pub says: fn(&[u8], Answer) -> Answer,
-    /// Its report, given the bytes it saw and whether finish was asked.
+    /// The counts of its report, given the bytes it saw and whether finish was
+    /// asked.
     pub counts: fn(&[u8], bool) -> [u64; 98],
+    /// The report's lines and bytes, given all bytes, what it says of them and
+    /// whether finish was asked.
+    pub numbers: fn(&[u8], Answer, bool) -> (u64, u64),
+    /// Its answer to a report with too little room, given what it says so far.
+    pub no_room: fn(Answer) -> Answer,
     /// Whether a finish with this answer is the last.
     pub ends_with: fn(&Answer) -> bool,
-    pub room_number: u8,
     pub short_report_clears: bool,
     pub stays_finished: bool,
     pub takes_after_finish: bool,
@@ -27,8 +32,9 @@ const NONE: Fault = Fault {
     sees: <[u8]>::to_vec,
     says: |_, answer| answer,
     counts: |bytes, _| oracle::counts(bytes),
+    numbers: |_, answer, _| answer.lines_and_bytes(),
+    no_room: |_| Answer::misuse(18),
     ends_with: |_| true,
-    room_number: 18,
     short_report_clears: false,
     stays_finished: false,
     takes_after_finish: false,
@@ -50,7 +56,11 @@ const fn counting(name: &'static str, counts: fn(&[u8], bool) -> [u64; 98]) -> F
     Fault { name, counts, ..NONE }
 }
 
-pub const FAULTS: [Fault; 44] = [
+const fn numbering(name: &'static str, numbers: fn(&[u8], Answer, bool) -> (u64, u64)) -> Fault {
+    Fault { name, numbers, ..NONE }
+}
+
+pub const FAULTS: [Fault; 49] = [
     joining("loses-cr", joins::without_last_cr),
     joining("loses-cr-at-empty-piece", joins::cr_lost_at_empty_piece),
     joining("loses-code", joins::code_lost),
@@ -87,9 +97,14 @@ pub const FAULTS: [Fault; 44] = [
     counting("counts-cleared-by-finish", counts::none_after_finish),
     counting("counts-at-cr", counts::at_cr),
     counting("counts-in-16-bits", counts::in_16_bits),
+    numbering("reports-refused-line", counts::with_refused_line),
+    numbering("reports-no-refused-byte", counts::without_refused_byte),
+    numbering("reports-bytes-received", counts::bytes_received),
+    numbering("reports-no-numbers-after-finish", counts::no_numbers_after_finish),
     Fault { name: "forgets-17", ends_with: |_| false, ..NONE },
     Fault { name: "goes-on-after-14", ends_with: says::is_not_14, ..NONE },
-    Fault { name: "room-17", room_number: 17, ..NONE },
+    Fault { name: "room-17", no_room: |_| Answer::misuse(17), ..NONE },
+    Fault { name: "room-with-numbers", no_room: counts::no_room_with_numbers, ..NONE },
     Fault { name: "short-report-clears", short_report_clears: true, ..NONE },
     Fault { name: "stays-finished", stays_finished: true, ..NONE },
     Fault { name: "takes-after-finish", takes_after_finish: true, ..NONE },

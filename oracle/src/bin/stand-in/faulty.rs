@@ -2,8 +2,8 @@
 
 use crate::fault::Fault;
 use crate::Answers;
-use oracle::compare::{answer_text, counts_text, room_text, Command};
-use oracle::{finish, verdict, Answer, Final, Verdict};
+use oracle::compare::{answer_text, counts_text, Command};
+use oracle::{finish, verdict, Answer};
 
 pub struct Faulty {
     fault: &'static Fault,
@@ -14,8 +14,6 @@ pub struct Faulty {
     finished: bool,
 }
 
-const AFTER_FINISH: Answer = Answer::Refused { number: 17, line: 0, field: 0, lines: 0, bytes: 0 };
-
 impl Answers for Faulty {
     fn answer(&mut self, command: &Command) -> Option<String> {
         match command {
@@ -25,12 +23,12 @@ impl Answers for Faulty {
             }
             Command::Piece(piece) => Some(answer_text(self.piece(piece))),
             Command::Finish => Some(answer_text(self.finish())),
-            Command::Counts => Some(counts_text(&self.counts())),
+            Command::Counts => Some(self.report()),
             Command::ShortCounts => {
                 if self.fault.short_report_clears {
                     self.start_anew();
                 }
-                Some(room_text(self.fault.room_number))
+                Some(answer_text((self.fault.no_room)(self.so_far())))
             }
         }
     }
@@ -57,34 +55,30 @@ impl Faulty {
             if self.fault.takes_after_finish {
                 self.take(piece);
             }
-            return AFTER_FINISH;
+            return Answer::misuse(17);
         }
         self.take(piece);
-        let answer = match verdict(&(self.fault.sees)(&self.joined)) {
-            Verdict::Open { lines, bytes } => Answer::Open { lines, bytes },
-            Verdict::Refused { number, line, field, lines, bytes } => {
-                Answer::Refused { number, line, field, lines, bytes }
-            }
-        };
+        self.so_far()
+    }
+
+    /// What it says of the bytes received, finish left aside.
+    fn so_far(&self) -> Answer {
+        let answer = verdict(&(self.fault.sees)(&self.joined)).into();
         (self.fault.says)(&self.all, answer)
     }
 
     fn finish(&mut self) -> Answer {
         if self.finished {
-            return AFTER_FINISH;
+            return Answer::misuse(17);
         }
-        let answer = match finish(&(self.fault.sees)(&self.joined)) {
-            Final::Accepted { lines, bytes } => Answer::Accepted { lines, bytes },
-            Final::Refused { number, line, field, lines, bytes } => {
-                Answer::Refused { number, line, field, lines, bytes }
-            }
-        };
+        let answer = finish(&(self.fault.sees)(&self.joined)).into();
         self.finished = (self.fault.ends_with)(&answer);
         (self.fault.says)(&self.all, answer)
     }
 
-    fn counts(&self) -> [u64; 98] {
-        let bytes = (self.fault.sees)(&self.joined);
-        (self.fault.counts)(&bytes, self.finished)
+    fn report(&self) -> String {
+        let counts = (self.fault.counts)(&(self.fault.sees)(&self.joined), self.finished);
+        let (lines, bytes) = (self.fault.numbers)(&self.all, self.so_far(), self.finished);
+        counts_text(lines, bytes, &counts)
     }
 }

@@ -1,8 +1,8 @@
 //! No fault: every command goes to the oracle's checker.
 
 use crate::Answers;
-use oracle::compare::{answer_text, counts_text, room_text, Command};
-use oracle::{Answer, Checker};
+use oracle::compare::{answer_text, counts_text, Command};
+use oracle::Checker;
 
 #[derive(Default)]
 pub struct Honest {
@@ -28,8 +28,8 @@ impl Honest {
     fn report(&self, places: usize) -> String {
         let mut room = vec![0; places];
         match self.checker.report(&mut room) {
-            Some(Answer::Refused { number, .. }) => room_text(number),
-            _ => counts_text(&room),
+            Ok((lines, bytes)) => counts_text(lines, bytes, &room),
+            Err(refusal) => answer_text(refusal),
         }
     }
 }
