@@ -7,17 +7,17 @@ use native.Mathlib.Omega.{arith}
 use lib.ListN.{getD, List·getD-map}
 use Rattle.layout.specs.Rows.{rowTable, rowCount, noRow, listed, code, fields, level, occurrence, parent}
 use Rattle.layout.specs.Kinds.{free, kind, fieldCount, start}
-use Rattle.layout.specs.Packed.{numbersOf, rowNumbers, parentColumn, startColumn, kindNumber, flatKinds, packedKinds}
+use Rattle.layout.specs.Packed.{fourNumbers, rowNumbers, parentColumn, startColumn, kindNumber, flatKinds, packedKinds}
 use Rattle.layout.proofs.ListLaws.{with-default-at, map-at}
 use Rattle.layout.proofs.TabulateLaws.{tabulate-at}
 use Rattle.layout.proofs.KindLaws.{flat-kind, fields-within}
 
 -- the rows: a row's numbers, and each by its place
-row-at : (r : ℕ) → r ≤ rowCount → getD rowNumbers r [] ≡ numbersOf (listed r)
+row-at : (r : ℕ) → r ≤ rowCount → getD rowNumbers r [] ≡ fourNumbers (listed r)
 unfolding rowNumbers listed rowTable
-row-at r h = map-at numbersOf (rowTable ++ noRow ∷ []) r noRow [] (suc-le-suc h) ∙ ap numbersOf (with-default-at rowTable noRow r)
+row-at r h = map-at fourNumbers (rowTable ++ noRow ∷ []) r noRow [] (suc-le-suc h) ∙ ap fourNumbers (with-default-at rowTable noRow r)
 
-number-at : (n r : ℕ) → r ≤ rowCount → getD (getD rowNumbers r []) n 0 ≡ getD (numbersOf (listed r)) n 0
+number-at : (n r : ℕ) → r ≤ rowCount → getD (getD rowNumbers r []) n 0 ≡ getD (fourNumbers (listed r)) n 0
 number-at n r h = ap (λ numbers. getD numbers n 0) (row-at r h)
 
 pub code-entry : (r : ℕ) → r ≤ rowCount → getD (getD rowNumbers r []) 0 0 ≡ code r

@@ -8,11 +8,11 @@ use Rattle.layout.specs.Rows.{Listed, rowTable, noRow, rowCount, none, c
 use Rattle.layout.specs.Kinds.{Kind, codeField, free, C, N, N-, decimals, date, lfpd, brasil, opens, count, kindsOf, start}
 
 -- "constant table of the 98 rows (code, fields, level, occurrence)": these four numbers a row, and one row more for "no row"
-abbrev pub numbersOf : Listed → List ℕ
-numbersOf l = textNumber (l .code) ∷ l .fields ∷ l .level ∷ l .occurrence ∷ []
+abbrev pub fourNumbers : Listed → List ℕ
+fourNumbers l = textNumber (l .code) ∷ l .fields ∷ l .level ∷ l .occurrence ∷ []
 
 unfoldable pub rowNumbers : List (List ℕ)
-rowNumbers = map numbersOf (rowTable ++ noRow ∷ [])
+rowNumbers = map fourNumbers (rowTable ++ noRow ∷ [])
 
 -- a number for each row, and one more for "no row"
 abbrev column : (ℕ → ℕ) → List ℕ

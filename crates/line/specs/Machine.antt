@@ -6,9 +6,9 @@ use Prim.Native.Nat.{ℕ, zero, suc, _+_, _-_, _≤_}
 use lib.Dec.{eqb, leb, ltb}
 use lib.ListN.{getD}
 use Rattle.layout.specs.Pick.{pick}
-use Rattle.layout.specs.Rows.{rowCount, none, anyNumber, level, limit, fields, block, parent, isOpening, isClosing, row0000, row9990, row9999, rowOfCode}
+use Rattle.layout.specs.Rows.{rowCount, none, anyNumber, level, limit, fields, mostFields, block, parent, isOpening, isClosing, row0000, row9990, row9999, rowOfCode}
 use Rattle.layout.specs.Kinds.{opens, kind}
-use Rattle.layout.specs.Packed.{rowNumbers, parentColumn, packedKinds, startColumn, slotTable, kindNumber}
+use Rattle.layout.specs.Packed.{rowNumbers, parentColumn, packedKinds, startColumn, slotTable, kindNumber, mostKind}
 use Rattle.rules.specs.Bytes.{bar, CR, LF, isEndByte}
 use Rattle.rules.specs.Order.{isData}
 use Rattle.layout.specs.Climb.{climb}
@@ -18,15 +18,30 @@ use Rattle.line.specs.declared.hot.Hot.{Hot}
 use Rattle.line.specs.declared.step.Step.{Step}
 use Rattle.line.specs.declared.step.Step.the-variants.{Next, Broken}
 
--- what a step may be asked of: the ranges of the stored numbers
+-- the most bars of a line: one before each field, and the last one
+abbrev pub mostBars : ℕ
+mostBars = mostFields + 1
+
+-- what an opening says: 1 for its field 2 being 0, 2 for 1; of any other line 0
+abbrev pub data0 : ℕ
+data0 = 1
+
+abbrev pub data1 : ℕ
+data1 = 2
+
+-- what a step may be asked of: the ranges of the stored numbers (docs/STATE.md). The byte that breaks rule 16 is judged too.
 pub record HotFit (h : Hot) : Type 0 where
   pub bytes : h .bytes ≤ byteLimit + 1
   pub lines : h .lines ≤ h .bytes
   pub last : h .last ≤ rowCount
   pub since : h .since ≤ h .bytes
-  pub bars : h .bars ≤ h .bytes
+  pub says : h .says ≤ data1
+  pub bars : h .bars ≤ mostBars
   pub row : h .row ≤ rowCount
+  pub fields : h .fields ≤ mostFields
+  pub kind : h .kind ≤ mostKind
   pub length : h .field .length ≤ h .bytes
+  pub wrong : h .field .wrong ≤ 1
   pub value : h .field .value ≤ cap
 
 -- the tables that are handed on
@@ -115,13 +130,6 @@ usedOf stamps occurrences r = pick (ltb (entryOf stamps (parent r)) (entryOf sta
 
 unfoldable pub roomOf : List ℕ → List ℕ → ℕ → Bool
 roomOf stamps occurrences r = eqb (limit r) anyNumber || ltb (usedOf stamps occurrences r) (limit r)
-
--- what an opening says: 1 for its field 2 being 0, 2 for 1; of any other line 0
-abbrev pub data0 : ℕ
-data0 = 1
-
-abbrev pub data1 : ℕ
-data1 = 2
 
 unfoldable pub misplacedOf : ℕ → ℕ → Bool
 misplacedOf says r = isData r && eqb says data1 || isClosing r && eqb says data0

@@ -63,7 +63,7 @@ const NO_CR_LF: u64 = 9;
 
 const AFTER_9999: u64 = 15;
 
-const TOO_LONG: u64 = 16;
+pub const TOO_LONG: u64 = 16;
 
 // A code's length.
 const CODE_LENGTH: u64 = 4;

@@ -4,8 +4,7 @@
 use layout::rows::ROWS;
 use libc::STDIN_FILENO;
 use libc::STDOUT_FILENO;
-use sef::calls::Reported;
-use sef::state::Answer;
+use sef::answers::Numbers;
 use sef::state::State;
 
 // A command's letter and length.
@@ -20,31 +19,18 @@ fn end() {
     io::write_all(STDOUT_FILENO, b"\n");
 }
 
-fn refused(n: u64, line: u64, field: u64, lines: u64, bytes: u64) {
-    io::write_all(STDOUT_FILENO, b"refused");
-    number(n);
-    number(line);
-    number(field);
-    number(lines);
-    number(bytes);
-    end();
-}
-
-fn stands(name: &[u8], lines: u64, bytes: u64) {
-    io::write_all(STDOUT_FILENO, name);
-    number(lines);
-    number(bytes);
-    end();
-}
-
-fn print(answer: Answer) {
-    match answer {
-        Answer::Open(lines, bytes) => stands(b"open", lines, bytes),
-        Answer::Accepted(lines, bytes) => stands(b"accepted", lines, bytes),
-        Answer::Refused(n, line, field, lines, bytes) => refused(n, line, field, lines, bytes),
-        Answer::Late => refused(17, 0, 0, 0, 0),
-        Answer::Damaged => refused(19, 0, 0, 0, 0),
+// A refusal with its number and place, or the word for none; then lines ended and bytes judged.
+fn print(unrefused: &[u8], n: Numbers) {
+    if n.refusal == 0 {
+        io::write_all(STDOUT_FILENO, unrefused);
+    } else {
+        io::write_all(STDOUT_FILENO, b"refused");
+        number(n.refusal);
+        number(n.line);
+        number(n.field);
     }
+    number(n.lines);
+    number(n.bytes);
 }
 
 fn wide(b: u8) -> usize {
@@ -59,30 +45,29 @@ fn stated(head: &[u8; HEAD]) -> usize {
 }
 
 fn print_counts(counts: &[u64; ROWS]) {
-    io::write_all(STDOUT_FILENO, b"counts");
     for i in 0..ROWS {
         number(counts[i]);
     }
-    end();
 }
 
 fn report(s: State) {
     let mut counts = [0u64; ROWS];
-    let told = sef::calls::report(s, &mut counts);
-    match told {
-        Reported::Written => print_counts(&counts),
-        Reported::NoRoom => refused(18, 0, 0, 0, 0),
-        Reported::Unfit => refused(19, 0, 0, 0, 0),
+    let numbers = sef::answers::report_numbers(sef::calls::report(s, &mut counts));
+    print(b"counts", numbers);
+    if numbers.refusal == 0 {
+        print_counts(&counts);
     }
+    end();
 }
 
 // A report with room for one count too few.
 fn no_room(s: State) {
     let mut counts = [0u64; ROWS - 1];
-    let told = sef::calls::report(s, &mut counts);
-    if let Reported::NoRoom = told {
-        io::write_all(STDOUT_FILENO, b"room 18\n");
-    }
+    print(
+        b"counts",
+        sef::answers::report_numbers(sef::calls::report(s, &mut counts)),
+    );
+    end();
 }
 
 // The piece's bytes, read to the block's start.
@@ -99,7 +84,8 @@ fn check(s: State, block: &[u8], n: usize) -> State {
     }
     let checked = sef::calls::check(s, &block[..n]);
     let answer = checked.answer;
-    print(answer);
+    print(b"open", sef::answers::answer_numbers(answer));
+    end();
     let next = checked.state;
     next
 }
@@ -112,10 +98,11 @@ fn piece(s: State, block: &mut [u8], n: usize) -> State {
 }
 
 fn finish(s: State) -> State {
-    let checked = sef::calls::finish(s);
-    let answer = checked.answer;
-    print(answer);
-    let next = checked.state;
+    let finished = sef::calls::finish(s);
+    let answer = finished.answer;
+    print(b"accepted", sef::answers::final_numbers(answer));
+    end();
+    let next = finished.state;
     next
 }
 

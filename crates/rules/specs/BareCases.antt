@@ -18,8 +18,8 @@ pub record Bare : Type 0 where
   pub says : ℕ
   pub given : ℕ
 
-abbrev pub case : ℕ → ℕ → Bare
-case says given = record { says = says; given = given }
+abbrev pub bare : ℕ → ℕ → Bare
+bare says given = record { says = says; given = given }
 
 -- a line by its code; the lines before it, the first of them first
 unfoldable pub rowNamed : String → ℕ
@@ -40,21 +40,21 @@ dueAfter before code = due (rowNamed code) (rowsNamed before)
 unfoldable pub lineCases : List Bare
 lineCases =
     -- 0175 right after 0001: 4
-    case 4 (placed ("0001" ∷ []) "0175") ∷
+    bare 4 (placed ("0001" ∷ []) "0175") ∷
     -- second 0175 under one 0150: 6; one under each of two: in place
-    case 6 (placed ("0001" ∷ "0150" ∷ "0175" ∷ []) "0175") ∷
-    case 0 (placed ("0001" ∷ "0150" ∷ "0175" ∷ "0150" ∷ []) "0175") ∷
+    bare 6 (placed ("0001" ∷ "0150" ∷ "0175" ∷ []) "0175") ∷
+    bare 0 (placed ("0001" ∷ "0150" ∷ "0175" ∷ "0150" ∷ []) "0175") ∷
     -- C310 after C300, C305: in place; C615 under C300: 4
-    case 0 (placed ("C001" ∷ "C020" ∷ "C300" ∷ "C305" ∷ []) "C310") ∷
-    case 4 (placed ("C001" ∷ "C020" ∷ "C300" ∷ []) "C615") ∷
+    bare 0 (placed ("C001" ∷ "C020" ∷ "C300" ∷ "C305" ∷ []) "C310") ∷
+    bare 4 (placed ("C001" ∷ "C020" ∷ "C300" ∷ []) "C615") ∷
     -- F225 after a second F215 with no new F220: 4
-    case 4 (placed ("F001" ∷ "F200" ∷ "F210" ∷ "F215" ∷ "F220" ∷ "F215" ∷ []) "F225") ∷
+    bare 4 (placed ("F001" ∷ "F200" ∷ "F210" ∷ "F215" ∷ "F220" ∷ "F215" ∷ []) "F225") ∷
     -- block H, then E001: 4
-    case 4 (placed ("H001" ∷ "H990" ∷ []) "E001") ∷
+    bare 4 (placed ("H001" ∷ "H990" ∷ []) "E001") ∷
     -- the counts of Base
-    case 3 (dueAfter ("0000" ∷ "0001" ∷ []) "0990") ∷
-    case 3 (dueAfter ("0000" ∷ "0001" ∷ "0990" ∷ "9001" ∷ []) "9990") ∷
-    case 6 (dueAfter ("0000" ∷ "0001" ∷ "0990" ∷ "9001" ∷ "9990" ∷ []) "9999") ∷
+    bare 3 (dueAfter ("0000" ∷ "0001" ∷ []) "0990") ∷
+    bare 3 (dueAfter ("0000" ∷ "0001" ∷ "0990" ∷ "9001" ∷ []) "9990") ∷
+    bare 6 (dueAfter ("0000" ∷ "0001" ∷ "0990" ∷ "9001" ∷ "9990" ∷ []) "9999") ∷
     []
 
 -- the rule that a byte breaks after these bytes of its line; 0 where it breaks none
@@ -72,11 +72,11 @@ dated text = pick (formOf date .content (reverse (bytes text))) 0 12
 unfoldable pub byteCases : List Bare
 byteCases =
     -- CR for field 2: 7; one bar more: 8; no last bar: 2; no CR: 9
-    case 7 (brokenAfter "|0001|" CR) ∷
-    case 8 (brokenAfter "|0001|1|" bar) ∷
-    case 2 (brokenAfter "|0001|1" CR) ∷
-    case 9 (brokenAfter "|0001|1|" LF) ∷
+    bare 7 (brokenAfter "|0001|" CR) ∷
+    bare 8 (brokenAfter "|0001|1|" bar) ∷
+    bare 2 (brokenAfter "|0001|1" CR) ∷
+    bare 9 (brokenAfter "|0001|1|" LF) ∷
     -- 29022011: 12; 29022012: a date
-    case 12 (dated "29022011") ∷
-    case 0 (dated "29022012") ∷
+    bare 12 (dated "29022011") ∷
+    bare 0 (dated "29022012") ∷
     []

@@ -1,149 +1,114 @@
 -- What each public call promises, by the cases of its code.
-use mathlib.Core.Path.{_≡_, _∙_, refl, sym, ap}
-use mathlib.Core.Bool.{Bool, true, false}
+use mathlib.Core.Path.{_≡_, _∙_, sym, ap}
+use mathlib.Core.Bool.{true, false}
 use mathlib.Core.List.{List, _++_}
 use Prim.Native.Nat.{ℕ, _<_, _≤_}
 use native.Mathlib.Omega.{arith}
-use lib.Dec.{eqb}
 use lib.ListN.{length, drop}
-use borrow.Author.Tests.{eq-eqb, ne-eqb, lt-ltb, le-ltb}
-use Rattle.layout.specs.Pick.{pick}
+use borrow.Author.Tests.{lt-ltb, le-ltb}
 use Rattle.layout.specs.Rows.{rowCount}
-use Rattle.rules.specs.Verdict as Rules
+use Rattle.rules.specs.Verdict.{countsOf}
 use Rattle.rules.proofs.TestLaws.{both}
-use Rattle.sef.specs.Calls.{runOf, rangedOf, checkOf, keptOf, unchanged, finalAnswerOf, closedOf, finishOf, reportOf, reportedOf}
-use Rattle.sef.specs.Promises.{said, told, AllBytes, more, done, Checks, Finishes, Reports}
+use Rattle.sef.specs.Answers.{numbers, finallySaid, reportSaid}
+use Rattle.sef.specs.Calls.{runOf, checkOf, keptOf, unchanged, finalAnswerOf, closedOf, finallyUnchanged, finishOf}
+use Rattle.sef.specs.Calls.{reportOf, reportedOf}
+use Rattle.sef.specs.Ranges.{rangedOf}
+use Rattle.sef.specs.Promises.{AllBytes, more, done, Checks, Finishes, Reports}
 use Rattle.sef.specs.declared.state.State.{State}
-use Rattle.sef.specs.declared.state.Checked.{Checked}
-use Rattle.sef.specs.declared.state.Answer.{Answer}
-use Rattle.sef.specs.declared.state.Answer.the-variants.{Late, Damaged}
-use Rattle.sef.specs.declared.calls.Reported.the-variants.{Written, NoRoom, Unfit}
-use Rattle.sef.proofs.Joined.{at-third, check-late, finish-late, finish-now, reached-ranged, reached-open, reached-counts, check-joined, check-counted, finish-joined, finished-ranged, finished-closed, finished-counts}
+use Rattle.sef.specs.declared.answers.Numbers.{Numbers}
+use Rattle.sef.specs.declared.answers.Checked.{Checked}
+use Rattle.sef.specs.declared.answers.Finished.{Finished}
+use Rattle.sef.specs.declared.answers.Answer.the-variants as Piece
+use Rattle.sef.specs.declared.answers.FinalAnswer.{FinalAnswer}
+use Rattle.sef.specs.declared.answers.FinalAnswer.the-variants as Final
+use Rattle.sef.specs.declared.answers.ReportAnswer.the-variants as Report
+use Rattle.sef.proofs.CallCases.{check-damaged, check-late, check-kept, check-run, finish-damaged, finish-late, finish-now}
+use Rattle.sef.proofs.ClosedLaws.{check-ranged, finish-ranged}
+use Rattle.sef.proofs.Joined.{given-ranged, given-counts, given-ended, check-joined, check-counted, finish-joined}
 
 -- A piece.
-module _ (s : State) (piece : List ℕ) where
-  -- 19; no state that calls from a fresh start gave back is such
-  pub checks-damaged : rangedOf s ≡ false → Checks s piece (unchanged Damaged s)
-  checks-damaged e =
+module _ (s : State) (piece : List ℕ) (all : AllBytes piece) where
+  checks : (r : Checked) → r ≡ checkOf s piece → Checks s piece r
+  checks r e =
       record {
-        exact = unfold checkOf in rw e;
-        joined = λ file r. both (reached-ranged file s r) e;
-        counted = λ file r. both (reached-ranged file s r) e;
-        kept = λ file r. both (reached-ranged file s r) e;
-        late = λ file f. both (finished-ranged file s f) e;
+        exact = e;
+        inRange = λ h. rw e (check-ranged s h piece all);
+        joined = λ file h. rw e (check-joined file s h piece);
+        counted = λ file h. rw e (check-counted file s h piece);
+        kept = λ file h. rw e (more h piece all);
       }
 
-  -- 17; no state before finish is such
-  pub checks-late : rangedOf s ≡ true → s .finished ≡ true → Checks s piece (unchanged Late s)
-  checks-late e d =
-      record {
-        exact = sym (check-late s e d piece);
-        joined = λ file r. both d (reached-open file s r);
-        counted = λ file r. both d (reached-open file s r);
-        kept = λ file r. both d (reached-open file s r);
-        late = λ file f. (refl, refl);
-      }
+  pub checks-damaged : rangedOf s ≡ false → Checks s piece (unchanged Piece.Damaged s)
+  checks-damaged e = checks (unchanged Piece.Damaged s) (sym (check-damaged s piece e))
 
-  module _ (all : AllBytes piece) (ranged : rangedOf s ≡ true) (unfinished : s .finished ≡ false) where
-    checks : (r : Checked) → r ≡ checkOf s piece → Checks s piece r
-    checks r e =
-        record {
-          exact = e;
-          joined = λ file h. rw e (check-joined file s h piece);
-          counted = λ file h. rw e (check-counted file s h piece);
-          kept = λ file h. rw e (more h piece all);
-          late = λ file f. both (finished-closed file s f) unfinished;
-        }
+  module _ (ranged : rangedOf s ≡ true) where
+    pub checks-late : s .finished ≡ true → Checks s piece (unchanged Piece.Late s)
+    checks-late d = checks (unchanged Piece.Late s) (sym (check-late s piece ranged d))
 
-    by-rule : (t : Bool) → eqb (s .rule) 0 ≡ t
-        → checkOf s piece ≡ pick t (runOf (s .hot) (s .counts) (s .stamps) (s .occurrences) piece) (unchanged (keptOf s) s)
-    unfolding checkOf
-    by-rule t e = at-third (rangedOf s) (s .finished) (unchanged Late s) _ (unchanged Damaged s) ranged unfinished ∙ chosen (eqb (s .rule) 0) e
-      where
-        chosen : (u : Bool) → u ≡ t
-            → pick u (runOf (s .hot) (s .counts) (s .stamps) (s .occurrences) piece) (unchanged (keptOf s) s)
-            ≡ pick t (runOf (s .hot) (s .counts) (s .stamps) (s .occurrences) piece) (unchanged (keptOf s) s)
-        chosen u q = rw q
+    module _ (unfinished : s .finished ≡ false) where
+      pub checks-kept : (n : Numbers) → (s .rule ≡ 0 → ⊥) → n ≡ keptOf s → Checks s piece (unchanged (Piece.Refused n) s)
+      checks-kept n z e =
+          checks (unchanged (Piece.Refused n) s)
+          (ap (λ x. unchanged (Piece.Refused x) s) e ∙ sym (check-kept s piece ranged unfinished z))
 
-    -- what was refused stays refused
-    pub checks-kept : (a : Answer) → (s .rule ≡ 0 → ⊥) → a ≡ keptOf s → Checks s piece (unchanged a s)
-    checks-kept a z e = checks (unchanged a s) (ap (λ x. unchanged x s) e ∙ sym (by-rule false (ne-eqb (s .rule) 0 z)))
-
-    pub checks-run : (r : Checked) → s .rule ≡ 0 → r ≡ runOf (s .hot) (s .counts) (s .stamps) (s .occurrences) piece → Checks s piece r
-    checks-run r z e = checks r (e ∙ sym (by-rule true (eq-eqb (s .rule) 0 z)))
+      pub checks-run : (r : Checked) → s .rule ≡ 0 → r ≡ runOf (s .hot) (s .tally) piece → Checks s piece r
+      checks-run r z e = checks r (e ∙ sym (check-run s piece ranged unfinished z))
 
 -- Finish.
 module _ (s : State) where
-  pub finishes-damaged : rangedOf s ≡ false → Finishes s (unchanged Damaged s)
-  finishes-damaged e =
+  finishes : (r : Finished) → r ≡ finishOf s → Finishes s r
+  finishes r e =
       record {
-        exact = unfold finishOf in rw e;
-        joined = λ file r. both (reached-ranged file s r) e;
-        kept = λ file r. both (reached-ranged file s r) e;
-        late = λ file f. both (finished-ranged file s f) e;
+        exact = e;
+        inRange = λ h. rw e (finish-ranged s h);
+        joined = λ file h. ap (λ c. finallySaid (c .answer)) e ∙ finish-joined file s h;
+        kept = λ file h. rw e (done h);
       }
 
-  pub finishes-late : rangedOf s ≡ true → s .finished ≡ true → Finishes s (unchanged Late s)
-  finishes-late e d =
-      record {
-        exact = sym (finish-late s e d);
-        joined = λ file r. both d (reached-open file s r);
-        kept = λ file r. both d (reached-open file s r);
-        late = λ file f. (refl, refl);
-      }
+  pub finishes-damaged : rangedOf s ≡ false → Finishes s (finallyUnchanged Final.Damaged s)
+  finishes-damaged e = finishes (finallyUnchanged Final.Damaged s) (sym (finish-damaged s e))
 
-  pub finishes-now : (a : Answer) (t : State) → rangedOf s ≡ true → s .finished ≡ false → a ≡ finalAnswerOf s → t ≡ closedOf s
+  pub finishes-late : rangedOf s ≡ true → s .finished ≡ true → Finishes s (finallyUnchanged Final.Late s)
+  finishes-late e d = finishes (finallyUnchanged Final.Late s) (sym (finish-late s e d))
+
+  pub finishes-now : (a : FinalAnswer) (t : State) → rangedOf s ≡ true → s .finished ≡ false → a ≡ finalAnswerOf s → t ≡ closedOf s
       → Finishes s (record { answer = a; state = t })
   finishes-now a t e d p q =
-      record {
-        exact = same;
-        joined = λ file r. ap (λ c. said (c .answer)) same ∙ finish-joined file s r;
-        kept = λ file r. rw (ap (λ c. c .state) same) (done r);
-        late = λ file f. both (finished-closed file s f) d;
-      }
-    where
-      same : record { answer = a; state = t } ≡ finishOf s
-      same = (λ i. record { answer = p i; state = q i }) ∙ sym (finish-now s e d)
+      finishes (record { answer = a; state = t }) ((λ i. record { answer = p i; state = q i }) ∙ sym (finish-now s e d))
 
 -- Report.
-no-room-told : told NoRoom ≡ 0 → ⊥
-unfolding told
-no-room-told e = omega arith
+no-room-said : reportSaid Report.NoRoom .refusal ≡ 0 → ⊥
+unfolding reportSaid
+no-room-said e = omega arith
 
 module _ (s : State) (before : List ℕ) where
-  pub reports-unfit : rangedOf s ≡ false → Reports s before Unfit before
-  reports-unfit e =
+  pub reports-damaged : rangedOf s ≡ false → Reports s before Report.Damaged before
+  reports-damaged e =
       record {
-        answer = unfold reportOf in rw e;
-        number = unfold told in rw e;
+        exact = unfold reportOf in rw e;
         buffer = unfold reportedOf in rw e;
-        counted = λ file r w. both (reached-ranged file s r) e;
-        closed = λ file f w. both (finished-ranged file s f) e;
+        counted = λ file g w. both (given-ranged file s g) e;
+        ended = λ file g w. both (given-ranged file s g) e;
       }
 
-  pub reports-no-room : rangedOf s ≡ true → length before < rowCount → Reports s before NoRoom before
+  pub reports-no-room : rangedOf s ≡ true → length before < rowCount → Reports s before Report.NoRoom before
   reports-no-room e l =
       record {
-        answer = unfold reportOf in rw (e, lt-ltb (length before) rowCount l);
-        number = unfold told in rw (e, lt-ltb (length before) rowCount l);
+        exact = unfold reportOf in rw (e, lt-ltb (length before) rowCount l);
         buffer = unfold reportedOf in rw (e, lt-ltb (length before) rowCount l);
-        counted = λ file r w. unwritten w;
-        closed = λ file f w. unwritten w;
+        counted = λ file g w. absurd (no-room-said w);
+        ended = λ file g w. absurd (no-room-said w);
       }
-    where
-      unwritten : {X : Type 0} → told NoRoom ≡ 0 → X
-      unwritten w = absurd (no-room-told w)
 
-  pub reports-written : (after : List ℕ) → rangedOf s ≡ true → rowCount ≤ length before → after ≡ s .counts ++ drop rowCount before
-      → Reports s before Written after
+  pub reports-written : (after : List ℕ) → rangedOf s ≡ true → rowCount ≤ length before → after ≡ s .tally .counts ++ drop rowCount before
+      → Reports s before (Report.Written (s .hot .lines) (s .hot .bytes)) after
   reports-written after e l p =
       record {
-        answer = unfold reportOf in rw (e, le-ltb (length before) rowCount l);
-        number = unfold told in rw (e, le-ltb (length before) rowCount l);
+        exact = unfold reportOf in rw (e, le-ltb (length before) rowCount l);
         buffer = unfold reportedOf in rw (e, le-ltb (length before) rowCount l) p;
-        counted = λ file r w. of-file file (reached-counts file s r);
-        closed = λ file f w. of-file file (finished-counts file s f);
+        counted = λ file g w. of-file file (given-counts file s g);
+        ended = λ file g w. unfold reportSaid in (let n = given-ended file s g in λ i. numbers 0 0 0 (n .0 i) (n .1 i));
       }
     where
-      of-file : (file : List ℕ) → s .counts ≡ Rules.countsOf file → after ≡ Rules.countsOf file ++ drop rowCount before
+      of-file : (file : List ℕ) → s .tally .counts ≡ countsOf file → after ≡ countsOf file ++ drop rowCount before
       of-file file q = rw (← q) p

@@ -1,14 +1,14 @@
 -- A field's ranges: one more byte makes it one longer, and leaves its mark of a wrong byte at 0 or 1.
 use mathlib.Core.Path.{_≡_, refl}
 use mathlib.Core.Bool.{Bool, true, false}
-use mathlib.Core.List.{List, [], _∷_}
+use mathlib.Core.List.{List}
 use Prim.Native.Nat.{ℕ, _+_, _≤_}
 use native.Mathlib.Omega.{arith}
 use Rattle.layout.specs.Pick.{pick}
 use Rattle.rules.specs.Fields.{isDigit}
 use Rattle.rules.proofs.TestLaws.{pick-le}
 use Rattle.field.specs.declared.bytes.Field.{Field}
-use Rattle.field.specs.Streaming.{longer, wrongWith, digitWith, matches, textWith, commaFits, decimalWith, withByte, fieldAfter}
+use Rattle.field.specs.Streaming.{longer, wrongWith, digitWith, matches, textWith, commaFits, decimalWith, withByte}
 use Rattle.field.proofs.LengthLaws.{by-class}
 
 -- what one more byte makes of a field
@@ -51,8 +51,5 @@ grown-wrong (grown w v h) l = h l
 pub byte-length : (kind : ℕ) (f : Field) (b : ℕ) → withByte kind f b .length ≡ f .length + 1
 byte-length kind f b = grown-length (byte-grown f b kind)
 
--- the field of a word
-pub word-wrong : (kind : ℕ) (w : List ℕ) → fieldAfter kind w .wrong ≤ 1
-unfolding fieldAfter
-word-wrong kind [] = omega arith
-word-wrong kind (b ∷ w) = grown-wrong (byte-grown (fieldAfter kind w) b kind) (word-wrong kind w)
+pub byte-wrong : (kind : ℕ) (f : Field) (b : ℕ) → f .wrong ≤ 1 → withByte kind f b .wrong ≤ 1
+byte-wrong kind f b l = grown-wrong (byte-grown f b kind) l

@@ -1,30 +1,25 @@
--- The ranges: the loop that tests an array, what the tests say, and that a step keeps within them.
-use mathlib.Core.Path.{_≡_, refl, subst}
+-- The ranges: the loop that tests an array, and what the tests say, in both directions.
+use mathlib.Core.Path.{_≡_, refl}
 use mathlib.Core.Bool.{Bool, true, false, _&&_}
-use mathlib.Core.List.{List, [], _∷_}
+use mathlib.Core.List.{List}
 use Prim.Native.Nat.{ℕ, zero, suc, _+_, _-_, _<_, _≤_}
 use native.Mathlib.Omega.{arith}
 use native.Mathlib.Numerals.{sub-one}
 use native.Mathlib.Decide.{ℕ-discrete}
-use lib.Dec.{eqb, leb, ltb}
-use lib.ListN.{getD, set}
-use lib.Seq.{getD-set-other}
-use borrow.Author.Tests.{le-leb, lt-leb, leb-true, leb-false, ltb-true}
-use Rattle.layout.specs.Pick.{pick}
-use Rattle.layout.specs.Rows.{none, rowCount, parent, isClosing, rowOfCode, mostFields}
+use lib.Dec.{eqb, leb}
+use lib.ListN.{getD}
+use borrow.Author.Tests.{eq-eqb, ne-eqb, eqb-true, le-leb, lt-leb, leb-true}
+use Rattle.layout.specs.Rows.{rowCount, mostFields}
 use Rattle.layout.specs.Packed.{mostKind}
 use Rattle.rules.specs.Rules.{byteLimit}
-use Rattle.rules.proofs.TestLaws.{and-left, and-right, pick-le}
+use Rattle.rules.proofs.TestLaws.{and-left, and-right}
 use Rattle.field.specs.Streaming.{cap}
-use Rattle.line.specs.Machine.{HotFit, grownOf, movedOf, endedOf, sinceOf, entryOf, usedOf, wordRow, codeBarOf, fieldBarOf, barOf, controlOf, inFieldOf, pastOf, startOf, stepOf}
-use Rattle.sef.specs.Calls.{setOf, withinTo, lineRanged, hotRanged, rangedOf, Below, Held}
+use Rattle.line.specs.Machine.{HotFit, mostBars, data1}
+use Rattle.sef.specs.Ranges.{withinTo, lineRanged, hotRanged, mostRule, refusalRanged, tallyRanged, rangedOf, TallyFit}
+use Rattle.sef.specs.Ranges.{Held}
 use Rattle.line.specs.declared.hot.Hot.{Hot}
-use Rattle.line.specs.declared.step.Step.{Step}
-use Rattle.line.specs.declared.step.Step.the-variants.{Next, Broken}
 use Rattle.sef.specs.declared.state.State.{State}
-use Rattle.field.proofs.LengthLaws.{fit-after}
-use Rattle.sef.proofs.FieldRanges.{byte-length}
-use Rattle.line.proofs.RowLaws.{word-row-le}
+use Rattle.sef.specs.declared.state.Tally.{Tally}
 
 -- The loop over an array, from its last entry down.
 module _ (m : ℕ) (xs : List ℕ) where
@@ -38,7 +33,7 @@ module _ (m : ℕ) (xs : List ℕ) where
   within-off zero h l = absurd (omega arith)
   within-off (suc j) h l = let e : suc j - 1 ≡ j = sub-one (suc j) in rw (lt-leb (getD xs j 0) m (rw e at l))
 
-  pub within-at : (n : ℕ) → withinTo m xs n ≡ true → (k : ℕ) → k < n → getD xs k 0 ≤ m
+  within-at : (n : ℕ) → withinTo m xs n ≡ true → (k : ℕ) → k < n → getD xs k 0 ≤ m
   unfolding withinTo
   within-at zero e k h = absurd (omega arith)
   within-at (suc n) e k h = go (ℕ-discrete k n) (within-at n (and-right (leb (getD xs n 0) m) (withinTo m xs n) e) k)
@@ -47,22 +42,25 @@ module _ (m : ℕ) (xs : List ℕ) where
       go (yes p) r = rw p (leb-true _ _ (and-left (leb (getD xs n 0) m) (withinTo m xs n) e))
       go (no p) r = r (omega arith)
 
-  pub within-all : (n : ℕ) → ((k : ℕ) → k < n → getD xs k 0 ≤ m) → withinTo m xs n ≡ true
+  within-all : (n : ℕ) → ((k : ℕ) → k < n → getD xs k 0 ≤ m) → withinTo m xs n ≡ true
   unfolding withinTo
   within-all zero h = refl
   within-all (suc n) h = rw (le-leb (getD xs n 0) m (h n (omega arith))) (within-all n (λ k l. h k (omega arith)))
 
--- What the tests say.
+-- The hot part.
 record LineFit (h : Hot) : Type 0 where
-  bars : h .bars ≤ h .bytes
+  bars : h .bars ≤ mostBars
   row : h .row ≤ rowCount
+  fields : h .fields ≤ mostFields
+  kind : h .kind ≤ mostKind
   length : h .field .length ≤ h .bytes
+  wrong : h .field .wrong ≤ 1
   value : h .field .value ≤ cap
 
 line-fit : (h : Hot) → lineRanged h ≡ true → LineFit h
 unfolding lineRanged
 line-fit h e =
-    let a = leb (h .bars) (h .bytes) in
+    let a = leb (h .bars) mostBars in
     let b = leb (h .row) rowCount in
     let c = leb (h .fields) mostFields in
     let d = leb (h .kind) mostKind in
@@ -77,18 +75,21 @@ line-fit h e =
     record {
       bars = leb-true _ _ (and-left a b e₂);
       row = leb-true _ _ (and-right a b e₂);
+      fields = leb-true _ _ (and-right (a && b) c e₃);
+      kind = leb-true _ _ (and-right (a && b && c) d e₄);
       length = leb-true _ _ (and-right (a && b && c && d) l e₅);
+      wrong = leb-true _ _ (and-right (a && b && c && d && l) w e₆);
       value = leb-true _ _ (and-right (a && b && c && d && l && w) v e);
     }
 
-pub fit-of : (h : Hot) → hotRanged h ≡ true → HotFit h
+fit-of : (h : Hot) → hotRanged h ≡ true → HotFit h
 unfolding hotRanged
 fit-of h e =
     let a = leb (h .bytes) (byteLimit + 1) in
     let b = leb (h .lines) (h .bytes) in
     let c = leb (h .last) rowCount in
     let d = leb (h .since) (h .bytes) in
-    let s = leb (h .says) 2 in
+    let s = leb (h .says) data1 in
     let e₅ = and-left (a && b && c && d && s) (lineRanged h) e in
     let e₄ = and-left (a && b && c && d) s e₅ in
     let e₃ = and-left (a && b && c) d e₄ in
@@ -99,169 +100,124 @@ fit-of h e =
       lines = leb-true _ _ (and-right a b e₂);
       last = leb-true _ _ (and-right (a && b) c e₃);
       since = leb-true _ _ (and-right (a && b && c) d e₄);
+      says = leb-true _ _ (and-right (a && b && c && d) s e₅);
       bars = line .bars;
       row = line .row;
+      fields = line .fields;
+      kind = line .kind;
       length = line .length;
+      wrong = line .wrong;
       value = line .value;
     }
 
-pub held-of : (s : State) → rangedOf s ≡ true → Held (s .hot) (s .counts) (s .stamps) (s .occurrences)
-unfolding rangedOf
-held-of s e =
-    let m = s .hot .bytes in
-    let a = hotRanged (s .hot) in
-    let b = leb (s .rule) 16 in
-    let f = leb (s .field) 31 in
-    let c = withinTo m (s .counts) rowCount in
-    let t = withinTo m (s .stamps) rowCount in
-    let o = withinTo m (s .occurrences) rowCount in
-    let e₅ = and-left (a && b && f && c && t) o e in
-    let e₄ = and-left (a && b && f && c) t e₅ in
-    let e₃ = and-left (a && b && f) c e₄ in
-    let e₂ = and-left (a && b) f e₃ in
+hot-ranged : (h : Hot) → HotFit h → hotRanged h ≡ true
+unfolding hotRanged lineRanged
+hot-ranged h f =
+    rw (
+      le-leb (h .bytes) (byteLimit + 1) (f .bytes),
+      le-leb (h .lines) (h .bytes) (f .lines),
+      le-leb (h .last) rowCount (f .last),
+      le-leb (h .since) (h .bytes) (f .since),
+      le-leb (h .says) data1 (f .says),
+      le-leb (h .bars) mostBars (f .bars),
+      le-leb (h .row) rowCount (f .row),
+      le-leb (h .fields) mostFields (f .fields),
+      le-leb (h .kind) mostKind (f .kind),
+      le-leb (h .field .length) (h .bytes) (f .length),
+      le-leb (h .field .wrong) 1 (f .wrong),
+      le-leb (h .field .value) cap (f .value),
+    )
+
+-- What is kept for each row.
+tally-fit : (t : Tally) (m : ℕ) → tallyRanged t m ≡ true → TallyFit t m
+unfolding tallyRanged
+tally-fit t m e =
+    let c = withinTo m (t .counts) rowCount in
+    let s = withinTo m (t .stamps) rowCount in
+    let o = withinTo m (t .occurrences) rowCount in
+    let e₂ = and-left (c && s) o e in
     record {
-      fit = fit-of (s .hot) (and-left a b e₂);
-      counts = within-at m (s .counts) rowCount (and-right (a && b && f) c e₄);
-      stamps = within-at m (s .stamps) rowCount (and-right (a && b && f && c) t e₅);
-      occurrences = within-at m (s .occurrences) rowCount (and-right (a && b && f && c && t) o e);
+      counts = within-at m (t .counts) rowCount (and-left c s e₂);
+      stamps = within-at m (t .stamps) rowCount (and-right c s e₂);
+      occurrences = within-at m (t .occurrences) rowCount (and-right (c && s) o e);
     }
 
--- A step that goes on.
-data Goes (h : Hot) : Step → Type 0 where
-  goes : {n : Hot} → HotFit n → n .bytes ≡ h .bytes + 1 → Goes h (Next n)
-  stops : {rule field : ℕ} → Goes h (Broken rule field)
+tally-ranged : (t : Tally) (m : ℕ) → TallyFit t m → tallyRanged t m ≡ true
+unfolding tallyRanged
+tally-ranged t m f =
+    rw (
+      within-all m (t .counts) rowCount (f .counts),
+      within-all m (t .stamps) rowCount (f .stamps),
+      within-all m (t .occurrences) rowCount (f .occurrences),
+    )
 
-pick-goes : (h : Hot) (t : Bool) (a b : Step) → Goes h a → Goes h b → Goes h (pick t a b)
-pick-goes h true a b p q = p
-pick-goes h false a b p q = q
+-- The refusal that is kept.
+pub open-ranged : (bytes : ℕ) → bytes ≤ byteLimit → refusalRanged 0 0 bytes ≡ true
+unfolding refusalRanged
+open-ranged bytes l = rw (le-leb bytes byteLimit l)
 
-module _ (h : Hot) (f : HotFit h) (small : h .bytes < byteLimit) where
-  moved-goes : (r fields kind says : ℕ) → r ≤ rowCount → Goes h (Next (movedOf h r fields kind says))
-  moved-goes r fields kind says le =
-      goes {n = movedOf h r fields kind says}
-      (record {
-        bytes = omega arith;
-        lines = omega (arith, f .lines);
-        last = f .last;
-        since = omega (arith, f .since);
-        bars = omega (arith, f .bars);
-        row = le;
-        length = omega arith;
-        value = omega arith;
-      })
-      refl
+pub broken-ranged : (rule field bytes : ℕ) → 1 ≤ rule → rule ≤ mostRule → field ≤ mostBars → refusalRanged rule field bytes ≡ true
+unfolding refusalRanged
+broken-ranged rule field bytes one most named =
+    rw (ne-eqb rule 0 (λ z. omega arith), le-leb rule mostRule most, le-leb field mostBars named)
 
-  grown-goes : (b : ℕ) → b < 256 → Goes h (Next (grownOf h b))
-  grown-goes b byte =
-      let g = fit-after {f = h .field} {b = b} (record { length = omega (arith, f .length); value = f .value }) byte (omega (arith, f .length)) (h .kind) in
-      goes {n = grownOf h b}
-      (record {
-        bytes = omega arith;
-        lines = omega (arith, f .lines);
-        last = f .last;
-        since = omega (arith, f .since);
-        bars = omega (arith, f .bars);
-        row = f .row;
-        length = omega (arith, f .length, byte-length (h .kind) (h .field) b);
-        value = g .value;
-      })
-      refl
+record Unbroken (field bytes : ℕ) : Type 0 where
+  none : field ≡ 0
+  limit : bytes ≤ byteLimit
 
-  since-le : sinceOf h ≤ h .bytes + 1
-  unfolding sinceOf
-  since-le = pick-le (isClosing (h .row)) 0 (h .since + 1) (h .bytes + 1) (omega arith) (omega (arith, f .since))
+unbroken : (rule field bytes : ℕ) → rule ≡ 0 → refusalRanged rule field bytes ≡ true → Unbroken field bytes
+unfolding refusalRanged
+unbroken rule field bytes z e =
+    let e′ : (eqb field 0 && leb bytes byteLimit) ≡ true = rw (eq-eqb rule 0 z) at e in
+    record {
+      none = eqb-true field 0 (and-left (eqb field 0) (leb bytes byteLimit) e′);
+      limit = leb-true _ _ (and-right (eqb field 0) (leb bytes byteLimit) e′);
+    }
 
-  ended-goes : Goes h (Next (endedOf h))
-  ended-goes =
-      goes {n = endedOf h}
-      (record {
-        bytes = omega arith;
-        lines = omega (arith, f .lines);
-        last = f .row;
-        since = since-le;
-        bars = omega arith;
-        row = omega arith;
-        length = omega arith;
-        value = omega arith;
-      })
-      refl
+broken : (rule field bytes : ℕ) → (rule ≡ 0 → ⊥) → refusalRanged rule field bytes ≡ true → (rule ≤ mostRule) × (field ≤ mostBars)
+unfolding refusalRanged
+broken rule field bytes z e =
+    let e′ : (leb rule mostRule && leb field mostBars) ≡ true = rw (ne-eqb rule 0 z) at e in
+    (leb-true _ _ (and-left (leb rule mostRule) (leb field mostBars) e′), leb-true _ _ (and-right (leb rule mostRule) (leb field mostBars) e′))
 
-  code-goes : (ss os : List ℕ) (r : ℕ) → r ≤ rowCount → Goes h (codeBarOf h ss os r)
-  unfolding codeBarOf
-  code-goes ss os r le = search (pick-goes, stops, moved-goes) depth 8
+-- A state in range, in its parts.
+module _ (s : State) (e : rangedOf s ≡ true) where
+  abbrev hot : Bool
+  hot = hotRanged (s .hot)
 
-  field-goes : (n : ℕ) → Goes h (fieldBarOf h n)
-  unfolding fieldBarOf
-  field-goes n = let le = f .row in search (pick-goes, stops, moved-goes) depth 8
+  abbrev refusal : Bool
+  refusal = refusalRanged (s .rule) (s .field) (s .hot .bytes)
 
-  bar-goes : (ss os : List ℕ) → Goes h (barOf h ss os)
-  unfolding barOf
-  bar-goes ss os = search (pick-goes, code-goes, field-goes, word-row-le) depth 8
+  abbrev tally : Bool
+  tally = tallyRanged (s .tally) (s .hot .bytes)
 
-  control-goes : (b : ℕ) → Goes h (controlOf h b)
-  unfolding controlOf
-  control-goes b = search (pick-goes, stops) depth 8
+  first-two : (hot && refusal) ≡ true
+  unfolding rangedOf
+  first-two = and-left (hot && refusal) tally e
 
-  in-goes : (ss os : List ℕ) (b : ℕ) → b < 256 → Goes h (inFieldOf h ss os b)
-  unfolding inFieldOf
-  in-goes ss os b byte = search (pick-goes, bar-goes, control-goes, grown-goes) depth 8
+  pub state-fit : HotFit (s .hot)
+  state-fit = fit-of (s .hot) (and-left hot refusal first-two)
 
-  past-goes : (b : ℕ) → b < 256 → Goes h (pastOf h b)
-  unfolding pastOf
-  past-goes b byte = search (pick-goes, stops, grown-goes, ended-goes) depth 8
+  state-tally : TallyFit (s .tally) (s .hot .bytes)
+  unfolding rangedOf
+  state-tally = tally-fit (s .tally) (s .hot .bytes) (and-right (hot && refusal) tally e)
 
-  start-goes : (b : ℕ) → Goes h (startOf h b)
-  unfolding startOf
-  start-goes b = let le = f .row in search (pick-goes, stops, moved-goes) depth 8
+  pub kept-refusal : (s .rule ≡ 0 → ⊥) → (s .rule ≤ mostRule) × (s .field ≤ mostBars)
+  kept-refusal z = broken (s .rule) (s .field) (s .hot .bytes) z (and-right hot refusal first-two)
 
-  line-goes : (ss os : List ℕ) (b : ℕ) → b < 256
-      → Goes h (pick (eqb (h .bars) 0) (startOf h b) (pick (ltb (h .fields) (h .bars)) (pastOf h b) (inFieldOf h ss os b)))
-  line-goes ss os b byte = search (pick-goes, start-goes, past-goes, in-goes) depth 8
+  module _ (z : s .rule ≡ 0) where
+    pub no-field : s .field ≡ 0
+    no-field = unbroken (s .rule) (s .field) (s .hot .bytes) z (and-right hot refusal first-two) .none
 
-step-goes : (h : Hot) → HotFit h → (ss os : List ℕ) (b : ℕ) → b < 256 → Goes h (stepOf h ss os b)
-unfolding stepOf
-step-goes h f ss os b byte = go (leb byteLimit (h .bytes)) refl
-  where
-    go : (t : Bool) → leb byteLimit (h .bytes) ≡ t
-        → Goes h (pick t (Broken 16 0) (pick (eqb (h .bars) 0) (startOf h b) (pick (ltb (h .fields) (h .bars)) (pastOf h b) (inFieldOf h ss os b))))
-    go true e = stops
-    go false e = line-goes h f (leb-false _ _ e) ss os b byte
+    pub held-of : Held (s .hot) (s .tally)
+    held-of =
+        record {
+          fit = state-fit;
+          limit = unbroken (s .rule) (s .field) (s .hot .bytes) z (and-right hot refusal first-two) .limit;
+          tally = state-tally;
+        }
 
-gone : (h n : Hot) (s : Step) → Goes h s → s ≡ Next n → HotFit n × (n .bytes ≡ h .bytes + 1)
-gone h n s (goes {n = k} f e) p = let q : k ≡ n = cc in subst (λ m. HotFit m × (m .bytes ≡ h .bytes + 1)) q (f, e)
-gone h n s stops p = absurd (let z : _≡_ {A = ℕ} 0 1 = cc in omega arith)
-
-pub step-fit : (h n : Hot) → HotFit h → (ss os : List ℕ) (b : ℕ) → b < 256 → stepOf h ss os b ≡ Next n → HotFit n × (n .bytes ≡ h .bytes + 1)
-step-fit h n f ss os b byte e = gone h n _ (step-goes h f ss os b byte) e
-
--- The arrays.
-pub entry-le : (m r : ℕ) (xs : List ℕ) → Below m xs → entryOf xs r ≤ m
-unfolding entryOf
-entry-le m r xs b = go (ltb r rowCount) refl
-  where
-    go : (t : Bool) → ltb r rowCount ≡ t → pick t (getD xs r 0) 0 ≤ m
-    go true e = b r (ltb-true _ _ e)
-    go false e = omega arith
-
-pub used-le : (m r : ℕ) (ss os : List ℕ) → Below m os → usedOf ss os r ≤ m
-unfolding usedOf
-used-le m r ss os b = pick-le (ltb (entryOf ss (parent r)) (entryOf ss r)) (entryOf os r) 0 m (entry-le m r os b) (omega arith)
-
-set-le : (xs : List ℕ) (r v m k : ℕ) → k ≡ r → getD xs k 0 ≤ m → v ≤ m → getD (set xs r v) k 0 ≤ m
-set-le [] r v m k e p le = p
-set-le (x ∷ xs) zero v m zero e p le = le
-set-le (x ∷ xs) zero v m (suc k) e p le = p
-set-le (x ∷ xs) (suc r) v m zero e p le = p
-set-le (x ∷ xs) (suc r) v m (suc k) e p le = set-le xs r v m k (omega arith) p le
-
-pub below-set : (m r v : ℕ) (xs : List ℕ) → Below m xs → v ≤ m → Below m (setOf xs r v)
-unfolding setOf
-below-set m r v xs b le k h = go (ltb r rowCount)
-  where
-    at : Dec (k ≡ r) → getD (set xs r v) k 0 ≤ m
-    at (yes p) = set-le xs r v m k p (b k h) le
-    at (no p) = rw (getD-set-other xs r k v 0 p) (b k h)
-
-    go : (t : Bool) → getD (pick t (set xs r v) xs) k 0 ≤ m
-    go true = at (ℕ-discrete k r)
-    go false = b k h
+pub ranged-by : (s : State) → HotFit (s .hot) → TallyFit (s .tally) (s .hot .bytes)
+    → refusalRanged (s .rule) (s .field) (s .hot .bytes) ≡ true → rangedOf s ≡ true
+unfolding rangedOf
+ranged-by s f t r = rw (hot-ranged (s .hot) f, r, tally-ranged (s .tally) (s .hot .bytes) t)

@@ -1,46 +1,47 @@
 -- The state after the bytes received, as a function of them, and what each call makes of it.
 use mathlib.Core.Path.{_≡_, _∙_, refl, sym, ap}
-use mathlib.Core.Bool.{Bool, true, false}
+use mathlib.Core.Bool.{true, false}
 use mathlib.Core.List.{List, [], _∷_, reverseAux}
 use mathlib.Core.Logic.{⊎-elim}
-use Prim.Native.Nat.{ℕ, _+_, _≤_}
+use Prim.Native.Nat.{ℕ}
 use native.Mathlib.Omega.{arith}
 use native.Mathlib.Numerals.{add-one}
 use lib.Dec.{eqb}
 use lib.ListN.{length}
 use borrow.Author.Tests.{ne-eqb}
-use Rattle.layout.specs.Pick.{pick}
 use Rattle.layout.specs.Rows.{row9999}
-use Rattle.rules.specs.Bytes.{lines, rows, rowAtHand, bars}
+use Rattle.rules.specs.Bytes.{lines, rows}
 use Rattle.rules.specs.Order.{last}
 use Rattle.rules.specs.Counts.{countsOfRows}
 use Rattle.rules.specs.Rules.{Fault, clear, breaks, fault, finished}
-use Rattle.rules.specs.Verdict.{Verdict, stillOpen, refused, accepted, verdict, stands, standing, counts, finishVerdict}
+use Rattle.rules.specs.Verdict.{Verdict, stillOpen, refused, accepted, verdict, standing, counts, finishVerdict}
 use Rattle.rules.proofs.TestLaws.{split}
 use Rattle.rules.proofs.FaultLaws.{finished-last}
 use Rattle.rules.proofs.OccurrenceLaws.{stamps, occurrences}
-use Rattle.rules.proofs.CleanLaws.{Clean, Refused, clean-next, verdict-broken, verdict-stays, standing-refused, standing-clean, clean-or-refused, clean-short, finish-clean, finish-refused}
-use Rattle.rules.proofs.SoundLaws.{sound}
-use Rattle.sef.specs.Calls.{openOf, stoppedOf, runOf, rangedOf, checkOf, keptOf, finalAnswerOf, finishOf}
-use Rattle.sef.specs.Promises.{said}
-use Rattle.sef.specs.declared.state.Checked.{Checked}
+use Rattle.rules.proofs.CleanLaws.{Clean, Refused, clean-next, verdict-broken, verdict-stays, standing-refused, standing-clean}
+use Rattle.rules.proofs.CleanLaws.{clean-or-refused, finish-clean, finish-refused}
+use Rattle.sef.specs.Answers.{numbersOf, said, finallySaid}
+use Rattle.sef.specs.Calls.{tallyOf, openOf, stoppedOf, runOf, checkOf, keptOf, finalAnswerOf, finishOf}
+use Rattle.sef.specs.Ranges.{rangedOf}
+use Rattle.sef.specs.declared.state.Tally.{Tally}
+use Rattle.sef.specs.declared.answers.Checked.{Checked}
 use Rattle.line.proofs.HotOf.{hotOf}
 use Rattle.line.proofs.Sim.{step-is}
 use Rattle.sef.proofs.ArrayLaws.{counts-next, stamps-next, occurrences-next}
-use Rattle.sef.proofs.ByteBounds.{OfBytes}
-use Rattle.layout.proofs.RowLaws.{fields-most}
-use Rattle.sef.proofs.TableRanges.{Named, no-rule, a-rule, fault-named}
-use Rattle.sef.proofs.StateRanges.{row-le, state-ranged}
+use Rattle.sef.proofs.NumberLaws.{fault-number}
 
 -- while no byte has broken a rule, and where one has broken rule n at the field f
+abbrev tallyAt : List ℕ → Tally
+tallyAt seen = tallyOf (countsOfRows (rows seen)) (stamps (rows seen)) (occurrences (rows seen))
+
 abbrev pub openAt : List ℕ → Checked
-openAt seen = openOf (hotOf seen) (countsOfRows (rows seen)) (stamps (rows seen)) (occurrences (rows seen))
+openAt seen = openOf (hotOf seen) (tallyAt seen)
 
-abbrev pub stoppedAt : List ℕ → ℕ → ℕ → Checked
-stoppedAt seen n f = stoppedOf (hotOf seen) (countsOfRows (rows seen)) (stamps (rows seen)) (occurrences (rows seen)) n f
+abbrev stoppedAt : List ℕ → ℕ → ℕ → Checked
+stoppedAt seen n f = stoppedOf (hotOf seen) (tallyAt seen) n f
 
-abbrev pub runAt : List ℕ → List ℕ → Checked
-runAt seen piece = runOf (hotOf seen) (countsOfRows (rows seen)) (stamps (rows seen)) (occurrences (rows seen)) piece
+abbrev runAt : List ℕ → List ℕ → Checked
+runAt seen piece = runOf (hotOf seen) (tallyAt seen) piece
 
 -- what check gives back after the bytes received: it keeps those that stand, and the refusal
 unfoldable pub checkedBy : Verdict → List ℕ → Checked
@@ -56,7 +57,7 @@ module _ (seen : List ℕ) where
   unfolding checkedAfter checkedBy
   after-clean c = rw (c, standing-clean seen c)
 
-  pub after-refused : (r : Refused seen) → checkedAfter seen ≡ stoppedAt (r .before) (r .number) (r .named)
+  after-refused : (r : Refused seen) → checkedAfter seen ≡ stoppedAt (r .before) (r .number) (r .named)
   unfolding checkedAfter checkedBy
   after-refused r = rw (r .says, r .left)
 
@@ -99,60 +100,27 @@ run-after (b ∷ piece) seen c = go (fault seen b) refl (λ e. run-after piece (
         run-broken seen b c piece n f e
         ∙ sym (after-more n _ f _ _ piece (b ∷ seen) (verdict-broken seen b c n f e) ∙ after-broken seen b c n f e)
 
--- The ranges.
--- What a refusal says: a number from 1 to 16, a field of the line
-abbrev pub Numbered : ℕ → ℕ → Type 0
-Numbered n f = (1 ≤ n) × (n ≤ 16) × (f ≤ 31)
+-- The calls, at the state of the bytes received, which is in range.
+refused-broken : (seen : List ℕ) (r : Refused seen) → r .number ≡ 0 → ⊥
+refused-broken seen r z = omega (arith, fault-number (r .before) (r .byte) (r .number) (r .named) (r .broken))
 
-pub refused-number : (seen : List ℕ) (r : Refused seen) → Numbered (r .number) (r .named)
-refused-number seen r = go (fault (r .before) (r .byte)) (fault-named (r .before) (r .byte)) (r .broken)
-  where
-    go : (t : Fault) → Named (bars (r .before)) t → t ≡ breaks (r .number) (r .named) → Numbered (r .number) (r .named)
-    go clear no-rule e = absurd (let z : _≡_ {A = ℕ} 0 1 = cc in omega arith)
-    go (breaks n f) (a-rule low high named) e =
-        let p : n ≡ r .number = cc in
-        let q : f ≡ r .named = cc in
-        omega (arith, sound (r .before) (r .clean) .within, fields-most (rowAtHand (r .before)) (row-le (r .before)))
+module _ (seen : List ℕ) (ranged : rangedOf (checkedAfter seen .state) ≡ true) where
+  clean-ranged : Clean seen → rangedOf (openAt seen .state) ≡ true
+  clean-ranged c = rw (after-clean seen c) at ranged
 
--- the bytes that stand are bytes
-standing-bytes : (seen : List ℕ) → OfBytes seen → OfBytes (standing seen)
-unfolding standing
-standing-bytes [] bytes = tt
-standing-bytes (b ∷ seen) bytes = go (stands (verdict (b ∷ seen))) (standing-bytes seen (bytes .1))
-  where
-    go : (t : Bool) → OfBytes (standing seen) → OfBytes (pick t (b ∷ seen) (standing seen))
-    go true rest = bytes
-    go false rest = rest
-
-module _ (seen : List ℕ) (bytes : OfBytes seen) where
-  open-ranged : Clean seen → rangedOf (openAt seen .state) ≡ true
-  unfolding openOf
-  open-ranged c =
-      state-ranged seen (sound seen c) bytes (length seen) (omega arith) (omega (arith, clean-short seen c)) 0 0 (omega arith) (omega arith) false
-
-  stopped-ranged : (r : Refused seen) → rangedOf (stoppedAt (r .before) (r .number) (r .named) .state) ≡ true
-  unfolding stoppedOf
-  stopped-ranged r =
-      let n = refused-number seen r in
-      state-ranged (r .before) (sound (r .before) (r .clean)) (rw (r .left) at (standing-bytes seen bytes)) (length (r .before) + 1)
-      (omega arith) (omega (arith, clean-short (r .before) (r .clean))) (r .number) (r .named) (n .1) (n .2) false
-
-  -- every state that is given back is within its ranges
-  pub after-ranged : rangedOf (checkedAfter seen .state) ≡ true
-  after-ranged =
-      ⊎-elim (λ c. rw (after-clean seen c) (open-ranged c)) (λ r. rw (after-refused seen r) (stopped-ranged r)) (clean-or-refused seen)
+  refused-ranged : (r : Refused seen) → rangedOf (stoppedAt (r .before) (r .number) (r .named) .state) ≡ true
+  refused-ranged r = rw (after-refused seen r) at ranged
 
   -- a piece: what check gives back is the state after the bytes joined
   open-joins : (piece : List ℕ) → Clean seen → checkOf (openAt seen .state) piece ≡ runAt seen piece
   unfolding checkOf
-  open-joins piece c = unfold openOf in rw (open-ranged c)
+  open-joins piece c = let e = clean-ranged c in unfold openOf in rw e
 
   stopped-joins : (piece : List ℕ) (r : Refused seen)
       → checkOf (stoppedAt (r .before) (r .number) (r .named) .state) piece ≡ stoppedAt (r .before) (r .number) (r .named)
   unfolding checkOf
   stopped-joins piece r =
-      rw (stopped-ranged r)
-      (unfold stoppedOf keptOf in rw (ne-eqb (r .number) 0 (λ z. omega (arith, refused-number seen r .0))))
+      rw (refused-ranged r) (unfold stoppedOf keptOf in rw (ne-eqb (r .number) 0 (refused-broken seen r)))
 
   pub check-after : (piece : List ℕ) → checkOf (checkedAfter seen .state) piece ≡ checkedAfter (reverseAux piece seen)
   check-after piece =
@@ -162,23 +130,28 @@ module _ (seen : List ℕ) (bytes : OfBytes seen) where
       (clean-or-refused seen)
 
   -- finish
-  finish-open : Clean seen → said (finishOf (openAt seen .state) .answer) ≡ finishVerdict seen
+  finish-open : Clean seen → finallySaid (finishOf (openAt seen .state) .answer) ≡ finishVerdict seen
   unfolding finishOf
   finish-open c =
-      rw (open-ranged c)
+      rw (clean-ranged c)
       (unfold openOf finalAnswerOf in
       rw (finish-clean seen c, finished-last seen)
-      (split (eqb (last (rows seen)) row9999) (λ t. unfold said in rw t) (λ t. unfold said in rw (t, add-one))))
+      (split (eqb (last (rows seen)) row9999) (λ t. unfold finallySaid in rw t) (λ t. unfold finallySaid in rw (t, add-one))))
 
   finish-stopped : (r : Refused seen)
-      → said (finishOf (stoppedAt (r .before) (r .number) (r .named) .state) .answer) ≡ finishVerdict seen
+      → finallySaid (finishOf (stoppedAt (r .before) (r .number) (r .named) .state) .answer) ≡ finishVerdict seen
   unfolding finishOf
   finish-stopped r =
-      rw (stopped-ranged r)
-      (unfold stoppedOf finalAnswerOf keptOf said in
-      rw (ne-eqb (r .number) 0 (λ z. omega (arith, refused-number seen r .0)), finish-refused seen _ _ _ _ _ (r .says), add-one (length (lines (r .before))), add-one (length (r .before))))
+      rw (refused-ranged r)
+      (unfold stoppedOf finalAnswerOf keptOf finallySaid in
+      rw (
+        ne-eqb (r .number) 0 (refused-broken seen r),
+        finish-refused seen _ _ _ _ _ (r .says),
+        add-one (length (lines (r .before))),
+        add-one (length (r .before)),
+      ))
 
-  pub finish-after : said (finishOf (checkedAfter seen .state) .answer) ≡ finishVerdict seen
+  pub finish-after : finallySaid (finishOf (checkedAfter seen .state) .answer) ≡ finishVerdict seen
   finish-after =
       ⊎-elim (λ c. rw (after-clean seen c) (finish-open c)) (λ r. rw (after-refused seen r) (finish-stopped r)) (clean-or-refused seen)
 
@@ -196,11 +169,27 @@ module _ (seen : List ℕ) where
   said-after =
       ⊎-elim (λ c. rw (after-clean seen c) (said-open c)) (λ r. rw (after-refused seen r) (said-stopped r)) (clean-or-refused seen)
 
-  pub counts-after : checkedAfter seen .state .counts ≡ counts seen
+  -- lines ended and bytes judged
+  abbrev Ended : Checked → Type 0
+  Ended c = (c .state .hot .lines ≡ numbersOf (verdict seen) .lines) × (c .state .hot .bytes ≡ numbersOf (verdict seen) .bytes)
+
+  ended-open : Clean seen → Ended (openAt seen)
+  unfolding openOf numbersOf
+  ended-open c = rw c (refl, refl)
+
+  ended-stopped : (r : Refused seen) → Ended (stoppedAt (r .before) (r .number) (r .named))
+  unfolding stoppedOf numbersOf
+  ended-stopped r = rw (r .says) (refl, add-one (length (r .before)))
+
+  pub ended-after : Ended (checkedAfter seen)
+  ended-after =
+      ⊎-elim (λ c. rw (after-clean seen c) (ended-open c)) (λ r. rw (after-refused seen r) (ended-stopped r)) (clean-or-refused seen)
+
+  pub counts-after : checkedAfter seen .state .tally .counts ≡ counts seen
   unfolding checkedAfter counts
   counts-after = go (verdict seen)
     where
-      go : (v : Verdict) → checkedBy v (standing seen) .state .counts ≡ countsOfRows (rows (standing seen))
+      go : (v : Verdict) → checkedBy v (standing seen) .state .tally .counts ≡ countsOfRows (rows (standing seen))
       go (stillOpen l n) = unfold checkedBy openOf in refl
       go (refused n line f l k) = unfold checkedBy stoppedOf in refl
       go (accepted l n) = unfold checkedBy openOf in refl

@@ -1,2 +1,4 @@
+pub mod Answers
+pub mod Ranges
 pub mod Calls
 pub mod Promises

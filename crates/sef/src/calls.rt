@@ -3,28 +3,26 @@ ghost use mathlib.Core.Path.{_≡_};
 ghost use Rattle.sef.specs.Calls.{fresh, finalAnswerOf};
 ghost use Rattle.sef.specs.Promises.{Checks, Finishes, Reports};
 ghost use Rattle.line.specs.Machine.{HotFit};
+use crate::answers::Answer;
+use crate::answers::Checked;
+use crate::answers::FinalAnswer;
+use crate::answers::Finished;
+use crate::answers::Numbers;
+use crate::answers::ReportAnswer;
 use crate::fill::fill;
+use crate::outcome::kept;
 use crate::ranges::ranged;
 use crate::run::run;
-use crate::state::Answer;
-use crate::state::Checked;
 use crate::state::State;
-use crate::state::kept;
+use crate::state::Tally;
 use layout::rows::ROWS;
 use line::hot::CODE_KIND;
 use line::hot::CODE_ONLY;
 use line::hot::Hot;
 use line::order::ROW_9999;
 
-// The answer of a report.
-pub enum Reported {
-    // the counts are written
-    Written,
-    // 18: there is room for fewer counts than rows
-    NoRoom,
-    // 19: a stored number is outside its range
-    Unfit,
-}
+// Rule 14: finish is asked before 9999's LF has come.
+const CUT_SHORT: u64 = 14;
 
 // The fresh state.
 pub fn start() -> State
@@ -46,9 +44,11 @@ pub fn start() -> State
         rule: 0,
         field: 0,
         finished: false,
-        counts: [0; ROWS],
-        stamps: [0; ROWS],
-        occurrences: [0; ROWS],
+        tally: Tally {
+            counts: [0; ROWS],
+            stamps: [0; ROWS],
+            occurrences: [0; ROWS],
+        },
     }
 }
 
@@ -70,67 +70,73 @@ pub fn check(s: State, piece: &[u8]) -> Checked
     }
     if s.rule != 0 {
         return Checked {
-            answer: kept(s),
+            answer: Answer::Refused(kept(s)),
             state: s,
         };
     }
     let h = s.hot;
-    let counts = s.counts;
-    let stamps = s.stamps;
-    let occurrences = s.occurrences;
-    run(h, counts, stamps, occurrences, piece)
+    let tally = s.tally;
+    run(h, tally, piece)
 }
 
 // The final answer of a file whose pieces have all come.
-fn verdict(s: State) -> Answer
+fn final_answer(s: State) -> FinalAnswer
     requires { ⌜ HotFit (s .hot) ⌝ }
     ensures { λ a. ⌜ a ≡ finalAnswerOf s ⌝ }
 {
     if s.rule != 0 {
-        return kept(s);
+        return FinalAnswer::Refused(kept(s));
     }
     let h = s.hot;
     if h.last == ROW_9999 {
-        return Answer::Accepted(h.lines, h.bytes);
+        return FinalAnswer::Accepted(h.lines, h.bytes);
     }
-    Answer::Refused(14, h.lines + 1, 0, h.lines, h.bytes)
+    FinalAnswer::Refused(Numbers {
+        refusal: CUT_SHORT,
+        line: h.lines + 1,
+        field: 0,
+        lines: h.lines,
+        bytes: h.bytes,
+    })
 }
 
 // The end of the file: the final answer, with the next state.
-pub fn finish(s: State) -> Checked
+pub fn finish(s: State) -> Finished
     ensures { λ r. ⌜ Finishes s r ⌝ }
 {
     if !ranged(s) {
-        return Checked {
-            answer: Answer::Damaged,
+        return Finished {
+            answer: FinalAnswer::Damaged,
             state: s,
         };
     }
     if s.finished {
-        return Checked {
-            answer: Answer::Late,
+        return Finished {
+            answer: FinalAnswer::Late,
             state: s,
         };
     }
     let mut next = s;
     next.finished = true;
-    Checked {
-        answer: verdict(s),
+    Finished {
+        answer: final_answer(s),
         state: next,
     }
 }
 
 // The counts of the lines ended so far, in row order, into the lent buffer and no further; or a refusal, and nothing is written.
-pub fn report(s: State, counts: &mut [u64]) -> Reported
+pub fn report(s: State, counts: &mut [u64]) -> ReportAnswer
     ensures { λ r. ⌜ Reports s (now (counts .entry)) r (now (counts .exit)) ⌝ }
 {
     if !ranged(s) {
-        return Reported::Unfit;
+        return ReportAnswer::Damaged;
     }
     if counts.len() < ROWS {
-        return Reported::NoRoom;
+        return ReportAnswer::NoRoom;
     }
-    let written = s.counts;
+    let tally = s.tally;
+    let written = tally.counts;
     fill(written, counts);
-    Reported::Written
+    let h = s.hot;
+    ReportAnswer::Written(h.lines, h.bytes)
 }

@@ -1,6 +1,9 @@
-// The checker: a file in pieces, judged byte by byte. The public calls are in `calls`.
+// The checker: a file in pieces, judged byte by byte. The public calls are in `calls`; what they take and give back is in `state` and
+// `answers`.
+pub mod answers;
 pub mod calls;
-pub mod fill;
-pub mod ranges;
-pub mod run;
+mod fill;
+mod outcome;
+mod ranges;
+mod run;
 pub mod state;

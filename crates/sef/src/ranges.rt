@@ -1,24 +1,28 @@
 // Every stored number within its range (docs/STATE.md): what refusal 19 asks.
 ghost use mathlib.Core.Path.{_≡_};
 ghost use Rattle.layout.specs.Rows.{rowCount};
-ghost use Rattle.sef.specs.Calls.{withinTo, lineRanged, hotRanged, rangedOf};
+ghost use Rattle.sef.specs.Ranges.{withinTo, lineRanged, hotRanged, refusalRanged, tallyRanged, rangedOf};
 use crate::state::State;
+use crate::state::Tally;
+use field::bytes::CAP;
 use layout::kinds::KIND_MOST;
 use layout::rows::FIELDS_MOST;
 use layout::rows::ROWS;
 use line::hot::Hot;
+use line::order::WITHOUT_DATA;
+use line::step::TOO_LONG;
+use rules::BYTE_LIMIT;
 
-const BYTES_MOST: u64 = rules::BYTE_LIMIT + 1;
-
-const VALUE_MOST: u64 = field::bytes::CAP;
-
-const SAYS_MOST: u64 = 2;
+// The byte that breaks rule 16 is judged too.
+const BYTES_MOST: u64 = BYTE_LIMIT + 1;
 
 const WRONG_MOST: u64 = 1;
 
-const RULE_MOST: u64 = 16;
+// A line has a bar before each field, and the last one.
+const BARS_MOST: u64 = FIELDS_MOST + 1;
 
-const FIELD_MOST: u64 = 31;
+// The last of the rules that a byte can break.
+const RULE_MOST: u64 = TOO_LONG;
 
 // Every entry is at most m.
 fn within(array: &[u64; ROWS], m: u64) -> bool
@@ -39,13 +43,13 @@ fn line_ranged(h: Hot) -> bool
     ensures { λ t. ⌜ t ≡ lineRanged h ⌝ }
 {
     let f = h.field;
-    (h.bars <= h.bytes)
+    (h.bars <= BARS_MOST)
         & (h.row <= ROWS)
         & (h.fields <= FIELDS_MOST)
         & (h.kind <= KIND_MOST)
         & (f.length <= h.bytes)
         & (f.wrong <= WRONG_MOST)
-        & (f.value <= VALUE_MOST)
+        & (f.value <= CAP)
 }
 
 fn hot_ranged(h: Hot) -> bool
@@ -55,21 +59,34 @@ fn hot_ranged(h: Hot) -> bool
         & (h.lines <= h.bytes)
         & (h.last <= ROWS)
         & (h.since <= h.bytes)
-        & (h.says <= SAYS_MOST)
+        & (h.says <= WITHOUT_DATA)
         & line_ranged(h)
+}
+
+// The refusal that is kept: while no rule is broken no field is named, and the bytes are within the limit.
+fn refusal_ranged(rule: u64, field: u64, bytes: u64) -> bool
+    ensures { λ t. ⌜ t ≡ refusalRanged rule field bytes ⌝ }
+{
+    if rule == 0 {
+        return (field == 0) & (bytes <= BYTE_LIMIT);
+    }
+    (rule <= RULE_MOST) & (field <= BARS_MOST)
+}
+
+// What is kept for each row.
+fn tally_ranged(tally: Tally, bytes: u64) -> bool
+    ensures { λ t. ⌜ t ≡ tallyRanged tally bytes ⌝ }
+{
+    let counts = tally.counts;
+    let stamps = tally.stamps;
+    let occurrences = tally.occurrences;
+    within(&counts, bytes) & within(&stamps, bytes) & within(&occurrences, bytes)
 }
 
 pub fn ranged(s: State) -> bool
     ensures { λ t. ⌜ t ≡ rangedOf s ⌝ }
 {
     let h = s.hot;
-    let counts = s.counts;
-    let stamps = s.stamps;
-    let occurrences = s.occurrences;
-    hot_ranged(h)
-        & (s.rule <= RULE_MOST)
-        & (s.field <= FIELD_MOST)
-        & within(&counts, h.bytes)
-        & within(&stamps, h.bytes)
-        & within(&occurrences, h.bytes)
+    let tally = s.tally;
+    hot_ranged(h) & refusal_ranged(s.rule, s.field, h.bytes) & tally_ranged(tally, h.bytes)
 }

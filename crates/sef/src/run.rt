@@ -2,10 +2,12 @@
 ghost use mathlib.Core.Path.{_≡_};
 ghost use Rattle.layout.specs.Packed.{parentColumn};
 ghost use Rattle.line.specs.Machine.{Tables};
-ghost use Rattle.sef.specs.Calls.{Held, setOf, countsWith, stampsWith, occurrencesWith, runOf};
-use crate::state::Checked;
-use crate::state::opened;
-use crate::state::refused;
+ghost use Rattle.sef.specs.Calls.{setOf, countsWith, stampsWith, occurrencesWith, tallyOf, runOf};
+ghost use Rattle.sef.specs.Ranges.{Held};
+use crate::answers::Checked;
+use crate::outcome::ended_by;
+use crate::outcome::opened;
+use crate::state::Tally;
 use layout::codes::SLOTS;
 use layout::kinds::FIELDS;
 use layout::rows::ENTRIES;
@@ -37,7 +39,7 @@ fn noted(
     occurrences: &mut [u64; ROWS],
 )
     requires { ⌜ now parents ≡ parentColumn ⌝ }
-    requires { ⌜ Held h (now counts) (now stamps) (now occurrences) ⌝ }
+    requires { ⌜ Held h (tallyOf (now counts) (now stamps) (now occurrences)) ⌝ }
     ensures { λ _. ⌜ now (counts .exit) ≡ countsWith h b (now (counts .entry)) ⌝ }
     ensures { λ _. ⌜ now (stamps .exit) ≡ stampsWith h n b (now (stamps .entry)) ⌝ }
     ensures { λ _. ⌜ now (occurrences .exit) ≡ occurrencesWith h b (now (stamps .entry)) (now (occurrences .entry)) ⌝ }
@@ -52,7 +54,7 @@ fn noted(
     }
 }
 
-// A piece, from a state in which nothing is refused.
+// A piece, from a state in which nothing is refused. (The arrays are locals: each can then be lent by itself.)
 fn judge_all(
     rows: &[[u64; 4]; ENTRIES],
     parents: &[usize; ENTRIES],
@@ -60,19 +62,17 @@ fn judge_all(
     starts: &[usize; ENTRIES],
     slots: &[usize; SLOTS],
     h0: Hot,
-    counts0: [u64; ROWS],
-    stamps0: [u64; ROWS],
-    occurrences0: [u64; ROWS],
+    tally: Tally,
     piece: &[u8],
 ) -> Checked
     requires { ⌜ Tables (now rows) (now parents) (now kinds) (now starts) (now slots) ⌝ }
-    requires { ⌜ Held h0 counts0 stamps0 occurrences0 ⌝ }
-    ensures { λ r. ⌜ r ≡ runOf h0 counts0 stamps0 occurrences0 (now (piece .entry)) ⌝ }
+    requires { ⌜ Held h0 tally ⌝ }
+    ensures { λ r. ⌜ r ≡ runOf h0 tally (now (piece .entry)) ⌝ }
 {
     let mut h = h0;
-    let mut counts = counts0;
-    let mut stamps = stamps0;
-    let mut occurrences = occurrences0;
+    let mut counts = tally.counts;
+    let mut stamps = tally.stamps;
+    let mut occurrences = tally.occurrences;
     let mut i = 0;
     while i < piece.len() {
         let b = piece[i];
@@ -88,7 +88,15 @@ fn judge_all(
             b,
         );
         let Step::Next(n) = t else {
-            return refused(t, h, counts, stamps, occurrences);
+            return ended_by(
+                t,
+                h,
+                Tally {
+                    counts,
+                    stamps,
+                    occurrences,
+                },
+            );
         };
         noted(
             parents,
@@ -102,35 +110,25 @@ fn judge_all(
         h = n;
         i += 1;
     }
-    opened(h, counts, stamps, occurrences)
+    opened(
+        h,
+        Tally {
+            counts,
+            stamps,
+            occurrences,
+        },
+    )
 }
 
 // The same, with the tables: read once a piece, so that a look-up is a plain load.
-pub fn run(
-    h: Hot,
-    counts: [u64; ROWS],
-    stamps: [u64; ROWS],
-    occurrences: [u64; ROWS],
-    piece: &[u8],
-) -> Checked
-    requires { ⌜ Held h counts stamps occurrences ⌝ }
-    ensures { λ r. ⌜ r ≡ runOf h counts stamps occurrences (now (piece .entry)) ⌝ }
+pub fn run(h: Hot, tally: Tally, piece: &[u8]) -> Checked
+    requires { ⌜ Held h tally ⌝ }
+    ensures { λ r. ⌜ r ≡ runOf h tally (now (piece .entry)) ⌝ }
 {
     let rows = layout::rows::table();
     let parents = layout::parents::table();
     let kinds = layout::kinds::table();
     let starts = layout::kinds::starts();
     let slots = layout::codes::slots();
-    judge_all(
-        &rows,
-        &parents,
-        &kinds,
-        &starts,
-        &slots,
-        h,
-        counts,
-        stamps,
-        occurrences,
-        piece,
-    )
+    judge_all(&rows, &parents, &kinds, &starts, &slots, h, tally, piece)
 }

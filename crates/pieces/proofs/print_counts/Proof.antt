@@ -10,12 +10,6 @@ Inv-loop counts i₀ i = i ≤ rowCount
 abbrev μ-loop : tie.MeasureT-loop
 μ-loop counts i₀ i = rowCount - i
 
-slice-aggregate-write-all : tie.Need-slice-aggregate-write-all Inv-loop μ-loop
-slice-aggregate-write-all c = search needs
-
-write-all-requires : tie.Need-write-all-requires Inv-loop μ-loop
-write-all-requires c κs = search needs
-
 loop-holds : tie.Need-loop-holds Inv-loop μ-loop
 loop-holds c = search needs
 
@@ -37,9 +31,6 @@ loop-less c = search needs
 loop-again : tie.Need-loop-again Inv-loop μ-loop
 loop-again c = search needs
 
-end-requires : tie.Need-end-requires Inv-loop μ-loop
-end-requires c κs = search needs
-
 returns : tie.Need-returns Inv-loop μ-loop
 returns c = search needs
 
@@ -49,8 +40,6 @@ print-counts-spec =
     (tie.spec
     Inv-loop
     μ-loop
-    slice-aggregate-write-all
-    write-all-requires
     loop-holds
     mul-number
     element-copy-out-number
@@ -58,5 +47,4 @@ print-counts-spec =
     add-i
     loop-less
     loop-again
-    end-requires
     returns)

@@ -5,7 +5,7 @@ use mathlib.Core.List.{List}
 use mir.Syntax.{w8}
 use mir.Val.{Fits}
 use Rattle.field.proofs.Picks.{thus-no, thus-yes}
-use Rattle.sef.proofs.RangeLaws.{held-of}
+use Rattle.sef.proofs.RangeLaws.{state-fit, held-of}
 use Rattle.sef.proofs.CallLaws.{checks-damaged, checks-late, checks-kept, checks-run}
 use Rattle.sef.proofs.calls.check.Statement.{statement}
 use Rattle.sef.proofs.calls.check.Tie as tie
@@ -18,13 +18,13 @@ ranged-requires : tie.Need-ranged-requires
 ranged-requires c κs = search needs
 
 returns : tie.Need-returns
-returns c = search (checks-damaged, thus-no)
+returns c = search (checks-damaged, thus-no, byte)
 
 returns-2 : tie.Need-returns-2
-returns-2 c = search (checks-late, thus-yes)
+returns-2 c = search (checks-late, thus-yes, byte)
 
 kept-requires : tie.Need-kept-requires
-kept-requires c κs = held-of (c .before .before .before .before .before .before .args .s) (search thus-yes) .fit
+kept-requires c κs = search (state-fit, thus-yes)
 
 returns-3 : tie.Need-returns-3
 returns-3 c = search (checks-kept, thus-yes, byte)

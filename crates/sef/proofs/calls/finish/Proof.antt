@@ -1,6 +1,7 @@
+use mathlib.Core.Path.{refl}
 use borrow.Author.Needs.{needs}
 use Rattle.field.proofs.Picks.{thus-no, thus-yes}
-use Rattle.sef.proofs.RangeLaws.{held-of}
+use Rattle.sef.proofs.RangeLaws.{state-fit}
 use Rattle.sef.proofs.CallLaws.{finishes-damaged, finishes-late, finishes-now}
 use Rattle.sef.proofs.calls.finish.Statement.{statement}
 use Rattle.sef.proofs.calls.finish.Tie as tie
@@ -14,11 +15,11 @@ returns c = search (finishes-damaged, thus-no)
 returns-2 : tie.Need-returns-2
 returns-2 c = search (finishes-late, thus-yes)
 
-verdict-requires : tie.Need-verdict-requires
-verdict-requires c κs = held-of (c .before .before .before .args .s) (search thus-yes) .fit
+final-answer-requires : tie.Need-final-answer-requires
+final-answer-requires c κs = search (state-fit, thus-yes)
 
 returns-3 : tie.Need-returns-3
-returns-3 c = search (finishes-now, thus-yes)
+returns-3 c = finishes-now _ _ _ (search thus-yes) (search needs) (c .final-answer .ensures) refl
 
 pub finish-spec : {M : Type 1} → statement M
-finish-spec = tie.close (tie.spec ranged-requires returns returns-2 verdict-requires returns-3)
+finish-spec = tie.close (tie.spec ranged-requires returns returns-2 final-answer-requires returns-3)

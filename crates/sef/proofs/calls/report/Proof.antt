@@ -1,6 +1,6 @@
 use borrow.Author.Needs.{needs}
 use Rattle.field.proofs.Picks.{thus-no, thus-yes}
-use Rattle.sef.proofs.CallLaws.{reports-unfit, reports-no-room, reports-written}
+use Rattle.sef.proofs.CallLaws.{reports-damaged, reports-no-room, reports-written}
 use Rattle.sef.proofs.calls.report.Statement.{statement}
 use Rattle.sef.proofs.calls.report.Tie as tie
 
@@ -8,7 +8,7 @@ ranged-requires : tie.Need-ranged-requires
 ranged-requires c κs = search needs
 
 returns : tie.Need-returns
-returns c = search (reports-unfit, thus-no)
+returns c = reports-damaged _ _ (search thus-no)
 
 returns-2 : tie.Need-returns-2
 returns-2 c = search (reports-no-room, thus-yes)

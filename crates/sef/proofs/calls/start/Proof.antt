@@ -1,3 +1,4 @@
+use mathlib.Core.Path.{refl}
 use borrow.Author.Needs.{needs}
 use Rattle.sef.specs.Calls.{fresh}
 use Rattle.sef.proofs.calls.start.Statement.{statement}
@@ -8,7 +9,7 @@ start-requires c κs = search needs
 
 returns : tie.Need-returns
 unfolding fresh
-returns c = rw (c .start .ensures)
+returns c = rw (c .start .ensures) refl
 
 pub start-spec : {M : Type 1} → statement M
 start-spec = tie.close (tie.spec start-requires returns)

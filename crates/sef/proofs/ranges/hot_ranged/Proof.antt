@@ -1,5 +1,5 @@
 use borrow.Author.Needs.{needs}
-use Rattle.sef.specs.Calls.{hotRanged}
+use Rattle.sef.specs.Ranges.{hotRanged}
 use Rattle.sef.proofs.ranges.hot_ranged.Statement.{statement}
 use Rattle.sef.proofs.ranges.hot_ranged.Tie as tie
 

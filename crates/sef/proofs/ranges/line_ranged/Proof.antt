@@ -1,5 +1,5 @@
 use mathlib.Core.Path.{refl}
-use Rattle.sef.specs.Calls.{lineRanged}
+use Rattle.sef.specs.Ranges.{lineRanged}
 use Rattle.sef.proofs.ranges.line_ranged.Statement.{statement}
 use Rattle.sef.proofs.ranges.line_ranged.Tie as tie
 

@@ -3,7 +3,7 @@ use borrow.Author.Needs.{needs}
 use mathlib.Core.Path.{_≡_, refl, _∙_, sym, ap}
 use native.Mathlib.Omega.{arith}
 use Rattle.layout.specs.Rows.{rowCount}
-use Rattle.sef.specs.Calls.{withinTo}
+use Rattle.sef.specs.Ranges.{withinTo}
 use Rattle.sef.proofs.RangeLaws.{within-on, within-off}
 use Rattle.sef.proofs.ranges.within.Statement.{statement}
 use Rattle.sef.proofs.ranges.within.Tie as tie

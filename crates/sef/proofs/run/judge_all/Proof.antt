@@ -3,13 +3,14 @@ use borrow.Author.Needs.{needs}
 use mathlib.Core.Path.{_∙_, sym}
 use native.Mathlib.Omega.{arith}
 use lib.ListN.{length}
+use Rattle.sef.specs.Calls.{tallyOf}
 use Rattle.sef.proofs.RunLaws.{Going, run-stop, run-end, going-next}
 use Rattle.sef.proofs.run.judge_all.Statement.{statement}
 use Rattle.sef.proofs.run.judge_all.Tie as tie
 
 abbrev Inv-loop : tie.InvT-loop
 Inv-loop rows parents kinds starts slots piece h₀ counts₀ stamps₀ occurrences₀ i₀ h counts stamps occurrences i =
-    Going piece h₀ counts₀ stamps₀ occurrences₀ h counts stamps occurrences i
+    Going piece h₀ (tallyOf counts₀ stamps₀ occurrences₀) h (tallyOf counts stamps occurrences) i
 
 abbrev μ-loop : tie.MeasureT-loop
 μ-loop rows parents kinds starts slots piece h₀ counts₀ stamps₀ occurrences₀ i₀ h counts stamps occurrences i =
@@ -30,16 +31,16 @@ enum-known-t c = search needs
 enum-told : tie.Need-enum-told Inv-loop μ-loop
 enum-told c = search needs
 
-refused-requires : tie.Need-refused-requires Inv-loop μ-loop
-refused-requires c κs = search needs
+ended-by-requires : tie.Need-ended-by-requires Inv-loop μ-loop
+ended-by-requires c κs = search needs
 
 returns : tie.Need-returns Inv-loop μ-loop
 returns c =
     let judged = c .before .before .before in
     let turn = judged .before .before .before .before in
     let at = turn .before .loop in
-    let stops = run-stop _ _ _ _ _ (at .i) (turn .loop-test .taken) in
-    c .refused .ensures ∙ sym (at .inv .runs ∙ stops _ _ _ (judged .judge .ensures) (c .before .enum-told .given .1))
+    let stops = run-stop _ _ _ (at .i) (turn .loop-test .taken) in
+    c .ended-by .ensures ∙ sym (at .inv .runs ∙ stops _ _ _ (judged .judge .ensures) (c .before .enum-told .given .1))
 
 noted-requires : tie.Need-noted-requires Inv-loop μ-loop
 noted-requires c κs = search needs
@@ -47,7 +48,7 @@ noted-requires c κs = search needs
 add-i : tie.Need-add-i Inv-loop μ-loop
 add-i c =
     let turn = c .before .before .before .before .before .before .before .before .before .before .before in
-    omega (arith, turn .loop-test .taken, turn .before .before .before .good)
+    omega (arith, turn .loop-test .taken, turn .before .before .before .before .before .before .good)
 
 loop-less : tie.Need-loop-less Inv-loop μ-loop
 loop-less c = search needs
@@ -58,7 +59,7 @@ loop-again c =
     let judged = told .before .before in
     let turn = judged .before .before .before .before in
     let at = turn .before .loop in
-    let byte = turn .before .before .shared-slice-known .given (at .i) in
+    let byte = turn .before .before .before .before .before .shared-slice-known .given (at .i) in
     let goes = sym (judged .judge .ensures) ∙ told .t .given .1 in
     let e = c .noted .ensures in
     going-next (at .inv) (turn .loop-test .taken) (byte .fits) _ goes _ _ _ (e .0) (e .1 .0) (e .1 .1)
@@ -69,7 +70,7 @@ opened-requires c κs = search needs
 returns-2 : tie.Need-returns-2 Inv-loop μ-loop
 returns-2 c =
     let at = c .before .before .loop in
-    c .opened .ensures ∙ sym (at .inv .runs ∙ run-end _ _ _ _ _ (at .i) (c .before .loop-test .left) (at .inv .within))
+    c .opened .ensures ∙ sym (at .inv .runs ∙ run-end _ _ _ (at .i) (c .before .loop-test .left) (at .inv .within))
 
 pub judge-all-spec : {M : Type 1} → statement M
 judge-all-spec =
@@ -82,7 +83,7 @@ judge-all-spec =
     judge-requires
     enum-known-t
     enum-told
-    refused-requires
+    ended-by-requires
     returns
     noted-requires
     add-i

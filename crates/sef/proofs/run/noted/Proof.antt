@@ -3,7 +3,7 @@ use borrow.Author.Tests.{eq-eqb, ne-eqb}
 use mathlib.Core.Path.{refl}
 use native.Mathlib.Omega.{arith}
 use Rattle.sef.specs.Calls.{countsWith, stampsWith, occurrencesWith}
-use Rattle.sef.proofs.RangeLaws.{entry-le, used-le}
+use Rattle.sef.proofs.TallyRanges.{entry-le, used-le}
 use Rattle.sef.proofs.run.noted.Statement.{statement}
 use Rattle.sef.proofs.run.noted.Tie as tie
 
@@ -16,7 +16,7 @@ entry-requires c κs = search needs
 add-put : tie.Need-add-put
 add-put c =
     let start = c .before .before .before .before .before .before .before in
-    omega (arith, entry-le _ (start .args .h .row) (start .args .counts .now) (start .pre .1 .counts))
+    omega (arith, entry-le _ (start .args .h .row) (start .args .counts .now) (start .pre .1 .tally .counts))
 
 put-requires : tie.Need-put-requires
 put-requires c κs = search needs
@@ -27,7 +27,7 @@ put-requires-2 c κs = search needs
 add-put-2 : tie.Need-add-put-2
 add-put-2 c =
     let start = c .before .before .before .before .before .before .before .before .before .before .before in
-    omega (arith, used-le _ (start .args .h .row) (start .args .stamps .now) (start .args .occurrences .now) (start .pre .1 .occurrences))
+    omega (arith, used-le _ (start .args .h .row) (start .args .stamps .now) (start .args .occurrences .now) (start .pre .1 .tally .occurrences))
 
 put-requires-3 : tie.Need-put-requires-3
 put-requires-3 c κs = search needs

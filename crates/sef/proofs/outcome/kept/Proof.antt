@@ -1,8 +1,8 @@
 use borrow.Author.Needs.{needs}
 use mathlib.Core.Path.{refl}
 use Rattle.sef.specs.Calls.{keptOf}
-use Rattle.sef.proofs.state.kept.Statement.{statement}
-use Rattle.sef.proofs.state.kept.Tie as tie
+use Rattle.sef.proofs.outcome.kept.Statement.{statement}
+use Rattle.sef.proofs.outcome.kept.Tie as tie
 
 add-t3 : tie.Need-add-t3
 add-t3 c = search needs

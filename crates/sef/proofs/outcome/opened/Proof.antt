@@ -1,7 +1,7 @@
 use mathlib.Core.Path.{refl}
 use Rattle.sef.specs.Calls.{openOf}
-use Rattle.sef.proofs.state.opened.Statement.{statement}
-use Rattle.sef.proofs.state.opened.Tie as tie
+use Rattle.sef.proofs.outcome.opened.Statement.{statement}
+use Rattle.sef.proofs.outcome.opened.Tie as tie
 
 returns : tie.Need-returns
 unfolding openOf

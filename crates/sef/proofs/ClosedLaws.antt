@@ -1,0 +1,125 @@
+-- Each call at a state in range gives a state in range; and what a piece and a finish come to at such a state.
+use mathlib.Core.Path.{_≡_, refl}
+use mathlib.Core.Bool.{Bool, true, false}
+use mathlib.Core.List.{List}
+use Prim.Native.Nat.{ℕ, _+_, _≤_}
+use native.Mathlib.Omega.{arith}
+use lib.Dec.{eqb}
+use borrow.Author.Tests.{eqb-true, eqb-false}
+use Rattle.layout.specs.Pick.{pick}
+use Rattle.line.specs.Machine.{HotFit, mostBars}
+use Rattle.sef.specs.Calls.{stateOf, openOf, stoppedOf, judgedOne, runOf, fresh, keptOf, unchanged, checkOf, finalAnswerOf}
+use Rattle.sef.specs.Calls.{closedOf, finallyUnchanged, finishOf}
+use Rattle.sef.specs.Ranges.{withinTo, lineRanged, hotRanged, mostRule, refusalRanged, tallyRanged, rangedOf, Held}
+use Rattle.sef.specs.Ranges.{TallyFit}
+use Rattle.sef.specs.Promises.{AllBytes}
+use Rattle.line.specs.declared.hot.Hot.{Hot}
+use Rattle.sef.specs.declared.state.State.{State}
+use Rattle.sef.specs.declared.state.Tally.{Tally}
+use Rattle.sef.specs.declared.answers.Checked.{Checked}
+use Rattle.sef.specs.declared.answers.Finished.{Finished}
+use Rattle.sef.specs.declared.answers.Answer.the-variants as Piece
+use Rattle.sef.specs.declared.answers.FinalAnswer.the-variants as Final
+use Rattle.sef.proofs.RangeLaws.{open-ranged, broken-ranged, held-of, ranged-by}
+use Rattle.sef.proofs.RunLaws.{Comes, opens, stops-by, run-comes}
+
+pub fresh-ranged : rangedOf fresh ≡ true
+unfolding rangedOf hotRanged lineRanged refusalRanged tallyRanged withinTo fresh
+fresh-ranged = refl
+
+-- What a piece comes to.
+opened-ranged : (h : Hot) (t : Tally) → Held h t → rangedOf (openOf h t .state) ≡ true
+unfolding openOf
+opened-ranged h t d = ranged-by (stateOf h 0 0 false t) (d .fit) (d .tally) (open-ranged (h .bytes) (d .limit))
+
+-- the refusing byte is judged too
+judged-fit : (h : Hot) (t : Tally) → Held h t → HotFit (judgedOne h)
+judged-fit h t d =
+    let f = d .fit in
+    record {
+      bytes = omega (arith, d .limit);
+      lines = omega (arith, f .lines);
+      last = f .last;
+      since = omega (arith, f .since);
+      says = f .says;
+      bars = f .bars;
+      row = f .row;
+      fields = f .fields;
+      kind = f .kind;
+      length = omega (arith, f .length);
+      wrong = f .wrong;
+      value = f .value;
+    }
+
+judged-tally : (h : Hot) (t : Tally) → Held h t → TallyFit t (h .bytes + 1)
+judged-tally h t d =
+    let f = d .tally in
+    record {
+      counts = λ k l. omega (arith, f .counts k l);
+      stamps = λ k l. omega (arith, f .stamps k l);
+      occurrences = λ k l. omega (arith, f .occurrences k l);
+    }
+
+pub stopped-ranged : (h : Hot) (t : Tally) (rule field : ℕ) → Held h t → 1 ≤ rule → rule ≤ mostRule → field ≤ mostBars
+    → rangedOf (stoppedOf h t rule field .state) ≡ true
+unfolding stoppedOf
+stopped-ranged h t rule field d one most named =
+    ranged-by (stateOf (judgedOne h) rule field false t) (judged-fit h t d) (judged-tally h t d)
+    (broken-ranged rule field (h .bytes + 1) one most named)
+
+comes-ranged : (c : Checked) → Comes c → rangedOf (c .state) ≡ true
+comes-ranged c (opens h t d) = opened-ranged h t d
+comes-ranged c (stops-by h t rule field d one most named) = stopped-ranged h t rule field d one most named
+
+-- A piece at a state in range: 17, what was refused, or what the bytes come to.
+pub data Pieces (s : State) (piece : List ℕ) : Checked → Type 0 where
+  late : s .finished ≡ true → Pieces s piece (unchanged Piece.Late s)
+  kept : s .finished ≡ false → (s .rule ≡ 0 → ⊥) → Pieces s piece (unchanged (Piece.Refused (keptOf s)) s)
+  run : s .finished ≡ false → s .rule ≡ 0 → Comes (runOf (s .hot) (s .tally) piece) → Pieces s piece (runOf (s .hot) (s .tally) piece)
+
+module _ (s : State) (ranged : rangedOf s ≡ true) where
+  pub check-pieces : (piece : List ℕ) → AllBytes piece → Pieces s piece (checkOf s piece)
+  unfolding checkOf
+  check-pieces piece all = rw ranged (go (s .finished) refl (eqb (s .rule) 0) refl)
+    where
+      go : (f : Bool) → s .finished ≡ f → (z : Bool) → eqb (s .rule) 0 ≡ z
+          → Pieces s piece (pick f (unchanged Piece.Late s) (pick z (runOf (s .hot) (s .tally) piece) (unchanged (Piece.Refused (keptOf s)) s)))
+      go true d z e = late d
+      go false d true e =
+          let q = eqb-true (s .rule) 0 e in
+          run d q (run-comes piece all (s .hot) (s .tally) (held-of s ranged q))
+      go false d false e = kept d (eqb-false (s .rule) 0 e)
+
+  pieces-ranged : (piece : List ℕ) (c : Checked) → Pieces s piece c → rangedOf (c .state) ≡ true
+  pieces-ranged piece c (late d) = ranged
+  pieces-ranged piece c (kept d z) = ranged
+  pieces-ranged piece c (run d z comes) = comes-ranged c comes
+
+  pub check-ranged : (piece : List ℕ) → AllBytes piece → rangedOf (checkOf s piece .state) ≡ true
+  check-ranged piece all = pieces-ranged piece (checkOf s piece) (check-pieces piece all)
+
+-- A finish at a state in range: 17, or the final answer, and finish has been asked.
+pub data Finishing (s : State) : Finished → Type 0 where
+  late : s .finished ≡ true → Finishing s (finallyUnchanged Final.Late s)
+  closes : s .finished ≡ false → Finishing s (record { answer = finalAnswerOf s; state = closedOf s })
+
+module _ (s : State) (ranged : rangedOf s ≡ true) where
+  pub finish-finishing : Finishing s (finishOf s)
+  unfolding finishOf
+  finish-finishing = rw ranged (go (s .finished) refl)
+    where
+      go : (f : Bool) → s .finished ≡ f
+          → Finishing s (pick f (finallyUnchanged Final.Late s) (record { answer = finalAnswerOf s; state = closedOf s }))
+      go true d = late d
+      go false d = closes d
+
+  closed-ranged : rangedOf (closedOf s) ≡ true
+  unfolding rangedOf
+  closed-ranged = ranged
+
+  finishing-ranged : (c : Finished) → Finishing s c → rangedOf (c .state) ≡ true
+  finishing-ranged c (late d) = ranged
+  finishing-ranged c (closes d) = closed-ranged
+
+  pub finish-ranged : rangedOf (finishOf s .state) ≡ true
+  finish-ranged = finishing-ranged (finishOf s) finish-finishing

@@ -1,0 +1,207 @@
+-- A step keeps within the ranges: from a hot part in range it goes on to one in range, or breaks a rule from 1 to 16 at a field of the line.
+use mathlib.Core.Path.{_≡_, refl}
+use mathlib.Core.Bool.{Bool, true, false, _&&_}
+use mathlib.Core.List.{List}
+use Prim.Native.Nat.{ℕ, _+_, _<_, _≤_}
+use native.Mathlib.Omega.{arith}
+use lib.Dec.{T, eqb, leb, ltb, leb→le, lit≤}
+use borrow.Author.Tests.{eqb-true, eqb-false, leb-false, ltb-false}
+use Rattle.layout.specs.Pick.{pick}
+use Rattle.layout.specs.Rows.{rowCount, fields, mostFields, isClosing}
+use Rattle.layout.specs.Kinds.{kind}
+use Rattle.layout.specs.Packed.{kindNumber, mostKind}
+use Rattle.rules.specs.Rules.{byteLimit}
+use Rattle.rules.proofs.TestLaws.{pick-le}
+use Rattle.layout.proofs.Below.{and-left, and-right}
+use Rattle.field.specs.Streaming.{emptyFault, contentFault, numberFault, textFault, faultOf}
+use Rattle.field.specs.declared.bytes.Field.{Field}
+use Rattle.line.specs.Machine.{HotFit, mostBars, data1, grownOf, movedOf, endedOf, sinceOf, codeBarOf, saysOf, fieldBarOf, barOf}
+use Rattle.line.specs.Machine.{controlOf, inFieldOf, pastOf, startOf, stepOf}
+use Rattle.sef.specs.Ranges.{mostRule}
+use Rattle.line.specs.declared.hot.Hot.{Hot}
+use Rattle.line.specs.declared.step.Step.{Step}
+use Rattle.line.specs.declared.step.Step.the-variants.{Next, Broken}
+use Rattle.layout.proofs.KindLaws.{kind-most}
+use Rattle.layout.proofs.RowLaws.{fields-most}
+use Rattle.field.proofs.LengthLaws.{fit-after}
+use Rattle.line.proofs.RowLaws.{word-row-le}
+use Rattle.sef.proofs.FieldRanges.{byte-length, byte-wrong}
+
+-- what a bar finds is 0 or a rule
+abbrev Rule : ℕ → Type 0
+Rule n = n ≤ mostRule
+
+module _ (class size : ℕ) (f : Field) (due : ℕ) where
+  empty-rule : Rule (emptyFault class)
+  unfolding emptyFault
+  empty-rule = search (pick-le, lit≤) depth 8
+
+  content-rule : Rule (contentFault class (f .value) due)
+  unfolding contentFault
+  content-rule = search (pick-le, lit≤) depth 8
+
+  number-rule : Rule (numberFault class size f due)
+  unfolding numberFault
+  number-rule = search (pick-le, lit≤, empty-rule, content-rule) depth 8
+
+  text-rule : Rule (textFault class size f)
+  unfolding textFault
+  text-rule = search (pick-le, lit≤) depth 8
+
+fault-rule : (kind : ℕ) (f : Field) (due : ℕ) → Rule (faultOf kind f due)
+unfolding faultOf
+fault-rule kind f due = search (pick-le, lit≤, text-rule, number-rule) depth 8
+
+-- where a step leads
+pub data Leads (h : Hot) : Step → Type 0 where
+  goes : {n : Hot} → HotFit n → n .bytes ≡ h .bytes + 1 → h .bytes < byteLimit → Leads h (Next n)
+  stops : {rule field : ℕ} → 1 ≤ rule → rule ≤ mostRule → field ≤ mostBars → Leads h (Broken rule field)
+
+pick-leads : (h : Hot) (t : Bool) (a b : Step) → Leads h a → Leads h b → Leads h (pick t a b)
+pick-leads h true a b p q = p
+pick-leads h false a b p q = q
+
+-- the number of a rule
+abbrev known : ℕ → Bool
+known rule = leb 1 rule && leb rule mostRule
+
+known-least : (rule : ℕ) → T (known rule) → 1 ≤ rule
+known-least rule t = leb→le 1 rule (and-left (leb 1 rule) (leb rule mostRule) t)
+
+known-most : (rule : ℕ) → T (known rule) → rule ≤ mostRule
+known-most rule t = leb→le rule mostRule (and-right (leb 1 rule) (leb rule mostRule) t)
+
+module _ (h : Hot) (f : HotFit h) (small : h .bytes < byteLimit) where
+  -- at the field at hand, and at no field or field 1
+  stops-here : (rule : ℕ) → T (known rule) → Leads h (Broken rule (h .bars))
+  stops-here rule k = stops {rule = rule} {field = h .bars} (known-least rule k) (known-most rule k) (f .bars)
+
+  stops-at : (rule field : ℕ) → T (known rule) → T (leb field 1) → Leads h (Broken rule field)
+  stops-at rule field k t =
+      let le = leb→le field 1 t in
+      stops {rule = rule} {field = field} (known-least rule k) (known-most rule k) (omega arith)
+
+  moved-leads : h .bars ≤ mostFields → (r fields kind says : ℕ) → r ≤ rowCount → fields ≤ mostFields → kind ≤ mostKind → says ≤ data1
+      → Leads h (Next (movedOf h r fields kind says))
+  moved-leads room r fields kind says row most small-kind said =
+      goes {n = movedOf h r fields kind says}
+      (record {
+        bytes = omega arith;
+        lines = omega (arith, f .lines);
+        last = f .last;
+        since = omega (arith, f .since);
+        says = said;
+        bars = omega arith;
+        row = row;
+        fields = most;
+        kind = small-kind;
+        length = omega arith;
+        wrong = omega arith;
+        value = omega arith;
+      })
+      refl small
+
+  grown-leads : (b : ℕ) → b < 256 → Leads h (Next (grownOf h b))
+  grown-leads b byte =
+      let g = fit-after {f = h .field} {b = b} (record { length = omega (arith, f .length); value = f .value }) byte (omega (arith, f .length)) (h .kind) in
+      goes {n = grownOf h b}
+      (record {
+        bytes = omega arith;
+        lines = omega (arith, f .lines);
+        last = f .last;
+        since = omega (arith, f .since);
+        says = f .says;
+        bars = f .bars;
+        row = f .row;
+        fields = f .fields;
+        kind = f .kind;
+        length = omega (arith, f .length, byte-length (h .kind) (h .field) b);
+        wrong = byte-wrong (h .kind) (h .field) b (f .wrong);
+        value = g .value;
+      })
+      refl small
+
+  since-le : sinceOf h ≤ h .bytes + 1
+  unfolding sinceOf
+  since-le = pick-le (isClosing (h .row)) 0 (h .since + 1) (h .bytes + 1) (omega arith) (omega (arith, f .since))
+
+  ended-leads : Leads h (Next (endedOf h))
+  ended-leads =
+      goes {n = endedOf h}
+      (record {
+        bytes = omega arith;
+        lines = omega (arith, f .lines);
+        last = f .row;
+        since = since-le;
+        says = f .says;
+        bars = omega arith;
+        row = omega arith;
+        fields = omega arith;
+        kind = omega arith;
+        length = omega arith;
+        wrong = omega arith;
+        value = omega arith;
+      })
+      refl small
+
+  says-le : saysOf h ≤ data1
+  unfolding saysOf
+  says-le = let le = f .says in search (pick-le, lit≤) depth 8
+
+  -- in a field of the line
+  module _ (room : h .bars ≤ mostFields) where
+    code-leads : (ss os : List ℕ) (r : ℕ) → r ≤ rowCount → Leads h (codeBarOf h ss os r)
+    unfolding codeBarOf
+    code-leads ss os r le =
+        let next = moved-leads room r (fields r) (kindNumber (kind r 2)) 0 le (fields-most r le) (kind-most r 2) (omega arith) in
+        search (pick-leads, stops-at, next) depth 8
+
+    field-leads : (n : ℕ) → n ≤ mostRule → Leads h (fieldBarOf h n)
+    unfolding fieldBarOf
+    field-leads n most = go (eqb n 0) refl
+      where
+        go : (t : Bool) → eqb n 0 ≡ t
+            → Leads h (pick t (Next (movedOf h (h .row) (h .fields) (kindNumber (kind (h .row) (h .bars + 1))) (saysOf h))) (Broken n (h .bars)))
+        go true e = moved-leads room (h .row) (h .fields) _ _ (f .row) (f .fields) (kind-most (h .row) (h .bars + 1)) says-le
+        go false e = let z = eqb-false n 0 e in stops {rule = n} {field = h .bars} (omega arith) most (f .bars)
+
+    bar-leads : (ss os : List ℕ) → Leads h (barOf h ss os)
+    unfolding barOf
+    bar-leads ss os = search (pick-leads, code-leads, word-row-le, field-leads, fault-rule) depth 8
+
+    control-leads : (b : ℕ) → Leads h (controlOf h b)
+    unfolding controlOf
+    control-leads b = search (pick-leads, stops-here) depth 8
+
+    in-leads : (ss os : List ℕ) (b : ℕ) → b < 256 → Leads h (inFieldOf h ss os b)
+    unfolding inFieldOf
+    in-leads ss os b byte = search (pick-leads, bar-leads, control-leads, grown-leads) depth 8
+
+    start-leads : (b : ℕ) → Leads h (startOf h b)
+    unfolding startOf
+    start-leads b =
+        let next = moved-leads room (h .row) (h .fields) 1 (h .says) (f .row) (f .fields) (omega arith) (f .says) in
+        search (pick-leads, stops-at, next) depth 8
+
+  past-leads : (b : ℕ) → b < 256 → Leads h (pastOf h b)
+  unfolding pastOf
+  past-leads b byte = search (pick-leads, stops-at, stops-here, grown-leads, ended-leads) depth 8
+
+  line-leads : (ss os : List ℕ) (b : ℕ) → b < 256
+      → Leads h (pick (eqb (h .bars) 0) (startOf h b) (pick (ltb (h .fields) (h .bars)) (pastOf h b) (inFieldOf h ss os b)))
+  line-leads ss os b byte = go (eqb (h .bars) 0) (ltb (h .fields) (h .bars)) refl refl
+    where
+      go : (t u : Bool) → eqb (h .bars) 0 ≡ t → ltb (h .fields) (h .bars) ≡ u
+          → Leads h (pick t (startOf h b) (pick u (pastOf h b) (inFieldOf h ss os b)))
+      go true u e d = let z = eqb-true (h .bars) 0 e in start-leads (omega arith) b
+      go false true e d = past-leads b byte
+      go false false e d = let l = ltb-false (h .fields) (h .bars) d in in-leads (omega (arith, f .fields)) ss os b byte
+
+pub step-leads : (h : Hot) → HotFit h → (ss os : List ℕ) (b : ℕ) → b < 256 → Leads h (stepOf h ss os b)
+unfolding stepOf
+step-leads h f ss os b byte = go (leb byteLimit (h .bytes)) refl
+  where
+    go : (t : Bool) → leb byteLimit (h .bytes) ≡ t
+        → Leads h (pick t (Broken 16 0) (pick (eqb (h .bars) 0) (startOf h b) (pick (ltb (h .fields) (h .bars)) (pastOf h b) (inFieldOf h ss os b))))
+    go true e = stops {rule = 16} {field = 0} (omega arith) (omega arith) (omega arith)
+    go false e = line-leads h f (leb-false _ _ e) ss os b byte

@@ -1,0 +1,16 @@
+use mathlib.Core.Path.{refl}
+use borrow.Author.Tests.{eq-eqb, ne-eqb}
+use Rattle.sef.specs.Ranges.{refusalRanged}
+use Rattle.sef.proofs.ranges.refusal_ranged.Statement.{statement}
+use Rattle.sef.proofs.ranges.refusal_ranged.Tie as tie
+
+returns : tie.Need-returns
+unfolding refusalRanged
+returns c = rw (eq-eqb _ _ (c .if1 .taken)) refl
+
+returns-2 : tie.Need-returns-2
+unfolding refusalRanged
+returns-2 c = rw (ne-eqb _ _ (c .if1 .left))
+
+pub refusal-ranged-spec : {M : Type 1} → statement M
+refusal-ranged-spec = tie.close (tie.spec returns returns-2)

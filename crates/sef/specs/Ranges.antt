@@ -1,0 +1,63 @@
+-- Every stored number within its range (docs/STATE.md): what refusal 19 asks.
+use mathlib.Core.Bool.{Bool, true, _&&_}
+use mathlib.Core.List.{List}
+use Prim.Native.Nat.{ℕ, zero, suc, _+_, _≤_, _<_}
+use lib.Dec.{eqb, leb}
+use lib.ListN.{getD}
+use Rattle.layout.specs.Pick.{pick}
+use Rattle.layout.specs.Rows.{rowCount, mostFields}
+use Rattle.layout.specs.Packed.{mostKind}
+use Rattle.rules.specs.Rules.{byteLimit}
+use Rattle.field.specs.Streaming.{cap}
+use Rattle.line.specs.Machine.{HotFit, mostBars, data1}
+use Rattle.line.specs.declared.hot.Hot.{Hot}
+use Rattle.sef.specs.declared.state.State.{State}
+use Rattle.sef.specs.declared.state.Tally.{Tally}
+
+-- the first n entries are at most m
+unfoldable pub withinTo : ℕ → List ℕ → ℕ → Bool
+withinTo m xs zero = true
+withinTo m xs (suc k) = leb (getD xs k 0) m && withinTo m xs k
+
+-- the line at hand
+unfoldable pub lineRanged : Hot → Bool
+lineRanged h =
+    leb (h .bars) mostBars && leb (h .row) rowCount && leb (h .fields) mostFields && leb (h .kind) mostKind
+    && leb (h .field .length) (h .bytes) && leb (h .field .wrong) 1 && leb (h .field .value) cap
+
+-- the byte that breaks rule 16 is judged too
+unfoldable pub hotRanged : Hot → Bool
+hotRanged h =
+    leb (h .bytes) (byteLimit + 1) && leb (h .lines) (h .bytes) && leb (h .last) rowCount && leb (h .since) (h .bytes)
+    && leb (h .says) data1 && lineRanged h
+
+-- the last of the rules that a byte can break
+abbrev pub mostRule : ℕ
+mostRule = 16
+
+-- while no rule is broken no field is named, and the bytes are within the limit
+unfoldable pub refusalRanged : ℕ → ℕ → ℕ → Bool
+refusalRanged rule field bytes =
+    pick (eqb rule 0) (eqb field 0 && leb bytes byteLimit) (leb rule mostRule && leb field mostBars)
+
+-- what is kept for each row
+unfoldable pub tallyRanged : Tally → ℕ → Bool
+tallyRanged t m = withinTo m (t .counts) rowCount && withinTo m (t .stamps) rowCount && withinTo m (t .occurrences) rowCount
+
+unfoldable pub rangedOf : State → Bool
+rangedOf s =
+    hotRanged (s .hot) && refusalRanged (s .rule) (s .field) (s .hot .bytes) && tallyRanged (s .tally) (s .hot .bytes)
+
+-- what the loop over a piece keeps
+abbrev pub Below : ℕ → List ℕ → Type 0
+Below m xs = (k : ℕ) → k < rowCount → getD xs k 0 ≤ m
+
+pub record TallyFit (t : Tally) (m : ℕ) : Type 0 where
+  pub counts : Below m (t .counts)
+  pub stamps : Below m (t .stamps)
+  pub occurrences : Below m (t .occurrences)
+
+pub record Held (h : Hot) (t : Tally) : Type 0 where
+  pub fit : HotFit h
+  pub limit : h .bytes ≤ byteLimit
+  pub tally : TallyFit t (h .bytes)
