@@ -12,3 +12,4 @@ pub mod StateAfter
 pub mod FreshState
 pub mod Joined
 pub mod CallLaws
+pub mod Demands

@@ -1,0 +1,425 @@
+-- The tender's demands and what document 01 says of the calls (specs/Demands.antt), proved of what the calls promise.
+use mathlib.Core.Path.{_≡_, _∙_, refl, sym, ap, subst}
+use mathlib.Core.Bool.{Bool, true, false}
+use mathlib.Core.List.{List, [], _++_, reverse}
+use mathlib.Core.Logic.{_⊎_, inr, ⊎-elim}
+use Prim.Native.Nat.{ℕ, _+_, _≤_}
+use native.Mathlib.Omega.{arith}
+use lib.Dec.{eqb, ltb}
+use lib.ListN.{length, take, drop}
+use lib.Seq.{take-at}
+use borrow.Author.Tests.{ne-eqb, eqb-true, eqb-false, le-ltb, lt-ltb}
+use Rattle.layout.specs.Pick.{pick}
+use Rattle.layout.specs.Rows.{rowCount, block, row9999}
+use Rattle.rules.specs.Bytes.{rowOf, rows}
+use Rattle.rules.specs.Totals.{blockCount}
+use Rattle.rules.specs.Verdict.{countsOf, counts, standing}
+use Rattle.rules.proofs.TestLaws.{both}
+use Rattle.rules.proofs.CountLaws.{counts-length}
+use Rattle.rules.proofs.FollowsLaws.{none-broken-open, follows-accepted, accepted-follows, first-refused, short-refused}
+use Rattle.rules.proofs.FollowsLaws.{refused-names}
+use Rattle.rules.proofs.TotalLaws.{accepted-last, accepted-sum, accepted-total, accepted-closing, accepted-first}
+use Rattle.rules.proofs.TotalLaws.{accepted-has-0-and-9}
+use Rattle.sef.specs.Answers.{numbers, numbersOf, said, finallySaid, reportSaid}
+use Rattle.sef.specs.Calls.{openOf, stoppedOf, runOf, keptOf, unchanged, checkOf, finalAnswerOf, finallyUnchanged, finishOf}
+use Rattle.sef.specs.Calls.{reportOf, reportedOf}
+use Rattle.sef.specs.Ranges.{rangedOf}
+use Rattle.sef.specs.Promises.{AllBytes, Reached, start, more, Checks, Finishes, Reports}
+use Rattle.sef.specs.Demands as D
+use Rattle.sef.specs.Demands.{Answered, isAccepted, isRefused, InTable, unrefused, byRule, ofCall, Stays}
+use Rattle.sef.specs.declared.state.State.{State}
+use Rattle.sef.specs.declared.answers.Numbers.{Numbers}
+use Rattle.sef.specs.declared.answers.Checked.{Checked}
+use Rattle.sef.specs.declared.answers.Finished.{Finished}
+use Rattle.sef.specs.declared.answers.Answer.the-variants as Piece
+use Rattle.sef.specs.declared.answers.FinalAnswer.{FinalAnswer}
+use Rattle.sef.specs.declared.answers.FinalAnswer.the-variants as Final
+use Rattle.sef.specs.declared.answers.ReportAnswer.{ReportAnswer}
+use Rattle.sef.specs.declared.answers.ReportAnswer.the-variants as Report
+use Rattle.sef.proofs.RangeLaws.{kept-refusal, no-field}
+use Rattle.sef.proofs.RunLaws.{Comes, opens, stops-by}
+use Rattle.sef.proofs.ClosedLaws.{stopped-ranged, Pieces, late, kept, run, check-pieces, Finishing, closes}
+use Rattle.sef.proofs.ClosedLaws.{finish-finishing}
+use Rattle.sef.proofs.Joined.{reached-state, reached-ranged, reached-open, given-ranged}
+use Rattle.sef.proofs.CallCases.{check-damaged, check-late, check-kept, check-run, finish-damaged, finish-late, finish-now}
+
+-- A piece at any state: 19, or what it comes to at a state in range.
+data AnyPiece (s : State) (piece : List ℕ) : Checked → Type 0 where
+  damaged : rangedOf s ≡ false → AnyPiece s piece (unchanged Piece.Damaged s)
+  ranged : rangedOf s ≡ true → {c : Checked} → Pieces s piece c → AnyPiece s piece c
+
+any-piece : (s : State) (piece : List ℕ) → AllBytes piece → AnyPiece s piece (checkOf s piece)
+any-piece s piece all = go (rangedOf s) refl
+  where
+    go : (t : Bool) → rangedOf s ≡ t → AnyPiece s piece (checkOf s piece)
+    go true e = ranged e (check-pieces s e piece all)
+    go false e = subst (AnyPiece s piece) (sym (check-damaged s piece e)) (damaged e)
+
+data AnyFinish (s : State) : Finished → Type 0 where
+  damaged : rangedOf s ≡ false → AnyFinish s (finallyUnchanged Final.Damaged s)
+  ranged : rangedOf s ≡ true → {c : Finished} → Finishing s c → AnyFinish s c
+
+any-finish : (s : State) → AnyFinish s (finishOf s)
+any-finish s = go (rangedOf s) refl
+  where
+    go : (t : Bool) → rangedOf s ≡ t → AnyFinish s (finishOf s)
+    go true e = ranged e (finish-finishing s e)
+    go false e = subst (AnyFinish s) (sym (finish-damaged s e)) (damaged e)
+
+-- A report at any state.
+data AnyReport (s : State) (before : List ℕ) : ReportAnswer → List ℕ → Type 0 where
+  damaged : rangedOf s ≡ false → AnyReport s before Report.Damaged before
+  no-room : rangedOf s ≡ true → AnyReport s before Report.NoRoom before
+  writes : rangedOf s ≡ true → AnyReport s before (Report.Written (s .hot .lines) (s .hot .bytes)) (s .tally .counts ++ drop rowCount before)
+
+any-report : (s : State) (before : List ℕ) → AnyReport s before (reportOf s before) (reportedOf s before)
+unfolding reportOf reportedOf
+any-report s before = go (rangedOf s) refl (ltb (length before) rowCount)
+  where
+    go : (t : Bool) → rangedOf s ≡ t → (l : Bool)
+        → AnyReport s before (pick t (pick l Report.NoRoom (Report.Written (s .hot .lines) (s .hot .bytes))) Report.Damaged)
+        (pick t (pick l before (s .tally .counts ++ drop rowCount before)) before)
+    go true e true = no-room e
+    go true e false = writes e
+    go false e l = damaged e
+
+report-any : (s : State) (before : List ℕ) (r : ReportAnswer) (after : List ℕ) → Reports s before r after → AnyReport s before r after
+report-any s before r after c = rw (c .exact, c .buffer) (any-report s before)
+
+-- The final answer, by its tests.
+data Finals (s : State) : FinalAnswer → Type 0 where
+  accepts : Finals s (Final.Accepted (s .hot .lines) (s .hot .bytes))
+  short : Finals s (Final.Refused (numbers 14 (s .hot .lines + 1) 0 (s .hot .lines) (s .hot .bytes)))
+  keeps : (s .rule ≡ 0 → ⊥) → Finals s (Final.Refused (keptOf s))
+
+finals : (s : State) → Finals s (finalAnswerOf s)
+unfolding finalAnswerOf
+finals s = go (eqb (s .rule) 0) refl (eqb (s .hot .last) row9999)
+  where
+    go : (z : Bool) → eqb (s .rule) 0 ≡ z → (t : Bool)
+        → Finals s (pick z (pick t (Final.Accepted (s .hot .lines) (s .hot .bytes))
+        (Final.Refused (numbers 14 (s .hot .lines + 1) 0 (s .hot .lines) (s .hot .bytes)))) (Final.Refused (keptOf s)))
+    go true e true = accepts
+    go true e false = short
+    go false e t = keeps (eqb-false (s .rule) 0 e)
+
+-- The answers' numbers.
+module _ (s : State) where
+  kept-in-table : rangedOf s ≡ true → (s .rule ≡ 0 → ⊥) → InTable (keptOf s)
+  unfolding keptOf
+  kept-in-table e z =
+      let k = kept-refusal s e z in
+      byRule (s .rule) (s .field) (s .hot .lines) (s .hot .bytes) (omega arith) (k .0) (k .1)
+
+  comes-in-table : (c : Checked) → Comes c → InTable (numbersOf (said (c .answer)))
+  unfolding openOf stoppedOf numbersOf said
+  comes-in-table c (opens h t d) = unrefused (h .lines) (h .bytes)
+  comes-in-table c (stops-by h t rule field d one most named) = byRule rule field (h .lines) (h .bytes + 1) one most named
+
+  pieces-in-table : rangedOf s ≡ true → (piece : List ℕ) (c : Checked) → Pieces s piece c → InTable (numbersOf (said (c .answer)))
+  unfolding numbersOf said
+  pieces-in-table e piece c (late d) = ofCall 17 (omega arith) (omega arith)
+  pieces-in-table e piece c (kept d z) = kept-in-table e z
+  pieces-in-table e piece c (run d z comes) = comes-in-table c comes
+
+  piece-in-table : (piece : List ℕ) (c : Checked) → AnyPiece s piece c → InTable (numbersOf (said (c .answer)))
+  unfolding numbersOf said
+  piece-in-table piece c (damaged e) = ofCall 19 (omega arith) (omega arith)
+  piece-in-table piece c (ranged e p) = pieces-in-table e piece c p
+
+  finals-in-table : rangedOf s ≡ true → (a : FinalAnswer) → Finals s a → InTable (numbersOf (finallySaid a))
+  unfolding numbersOf finallySaid
+  finals-in-table e a accepts = unrefused (s .hot .lines) (s .hot .bytes)
+  finals-in-table e a short = byRule 14 0 (s .hot .lines) (s .hot .bytes) (omega arith) (omega arith) (omega arith)
+  finals-in-table e a (keeps z) = kept-in-table e z
+
+  finishing-in-table : rangedOf s ≡ true → (c : Finished) → Finishing s c → InTable (numbersOf (finallySaid (c .answer)))
+  unfolding numbersOf finallySaid
+  finishing-in-table e c (late d) = ofCall 17 (omega arith) (omega arith)
+  finishing-in-table e c (closes d) = finals-in-table e (finalAnswerOf s) (finals s)
+
+  finish-in-table : (c : Finished) → AnyFinish s c → InTable (numbersOf (finallySaid (c .answer)))
+  unfolding numbersOf finallySaid
+  finish-in-table c (damaged e) = ofCall 19 (omega arith) (omega arith)
+  finish-in-table c (ranged e p) = finishing-in-table e c p
+
+  report-in-table : (before : List ℕ) (r : ReportAnswer) (after : List ℕ) → AnyReport s before r after → InTable (reportSaid r)
+  unfolding reportSaid
+  report-in-table before r after (damaged e) = ofCall 19 (omega arith) (omega arith)
+  report-in-table before r after (no-room e) = ofCall 18 (omega arith) (omega arith)
+  report-in-table before r after (writes e) = unrefused (s .hot .lines) (s .hot .bytes)
+
+-- The tender.
+
+finals-answered : (s : State) → rangedOf s ≡ true → (a : FinalAnswer) → Finals s a → Answered (finallySaid a)
+unfolding finallySaid keptOf
+finals-answered s e a accepts = isAccepted
+finals-answered s e a short = isRefused {number = 14} (omega arith) (omega arith)
+finals-answered s e a (keeps z) = isRefused {number = s .rule} (omega arith) (kept-refusal s e z .0)
+
+finish-answered : (file : List ℕ) (s : State) (r : Finished) → Reached file s → Finishes s r → Answered (finallySaid (r .answer))
+finish-answered file s r h c =
+    let e = reached-ranged file s h in
+    rw (c .exact ∙ finish-now s e (reached-open file s h)) (finals-answered s e (finalAnswerOf s) (finals s))
+
+pub every-file-answered : D.EveryFileAnswered
+every-file-answered = ((λ file all. more start file all), finish-answered)
+
+pub one-number : D.OneNumber
+one-number = (
+  (λ s piece r all c. rw (c .exact) (piece-in-table s piece (checkOf s piece) (any-piece s piece all))),
+  (λ s r c. rw (c .exact) (finish-in-table s (finishOf s) (any-finish s))),
+  (λ s before r after c. report-in-table s before r after (report-any s before r after c)),
+)
+
+pub refused-report-writes-nothing : D.RefusedReportWritesNothing
+unfolding reportSaid
+refused-report-writes-nothing s before r after c z = go r after (report-any s before r after c) z
+  where
+    go : (r : ReportAnswer) (after : List ℕ) → AnyReport s before r after → (reportSaid r .refusal ≡ 0 → ⊥) → after ≡ before
+    go r after (damaged e) z = refl
+    go r after (no-room e) z = refl
+    go r after (writes e) z = absurd (z refl)
+
+pub accepted-exactly : D.AcceptedExactly
+accepted-exactly file s r h c =
+    ((λ f. c .joined file h ∙ follows-accepted file f), (λ l n e. accepted-follows file l n (sym (c .joined file h) ∙ e) .0))
+
+pub first-place-named : D.FirstPlaceNamed
+first-place-named file s r h c number line field lines bytes = (
+  (λ e. refused-names file number line field lines bytes (sym (c .joined file h) ∙ e)),
+  (λ p. c .joined file h
+      ∙ ⊎-elim (first-refused file number line field lines bytes) (short-refused file number line field lines bytes) p),
+)
+
+pub pieces-joined : D.PiecesJoined
+pieces-joined file s h =
+    ((λ piece r c. (c .joined file h, c .counted file h, c .kept file h)), (λ r c. c .joined file h))
+
+pub cuts-do-not-matter : D.CutsDoNotMatter
+cuts-do-not-matter file s t h g = reached-state file s h ∙ sym (reached-state file t g)
+
+counts-98 : (file : List ℕ) → length (countsOf file) ≡ rowCount
+unfolding countsOf counts
+counts-98 file = counts-length (rows (standing (reverse file)))
+
+pub block-counts-add-up : D.BlockCountsAddUp
+block-counts-add-up file s r h c l n e =
+    let a = sym (c .joined file h) ∙ e in
+    record {
+      lastIs9999 = accepted-last file l n a;
+      addsUp = accepted-sum file l n a;
+      total = accepted-total file l n a;
+      eachClosing = λ line m k before q after p z.
+          accepted-closing file l n a line m k
+          ∙ ap (blockCount (block (rowOf line)))
+          (sym (ap (take rowCount) (p .counted file (inr (c .kept file h)) z)
+          ∙ take-at (countsOf file) (drop rowCount before) rowCount (counts-98 file)));
+    }
+
+-- "The order of lines", of an accepted file.
+pub first-lines : D.FirstLines
+first-lines file s r h c l n e = accepted-first file l n (sym (c .joined file h) ∙ e)
+
+pub first-and-last-block : D.FirstAndLastBlock
+first-and-last-block file s r h c l n e = accepted-has-0-and-9 file l n (sym (c .joined file h) ∙ e)
+
+-- "What a refusal says", of the calls.
+pub damaged-first : D.DamagedFirst
+damaged-first s e = (
+  (λ piece r c. ap (λ x. x .answer) (c .exact ∙ check-damaged s piece e)),
+  (λ r c. ap (λ x. x .answer) (c .exact ∙ finish-damaged s e)),
+  (λ before r after c. c .exact ∙ unfold reportOf in rw e),
+)
+
+pub then-late-or-no-room : D.ThenLateOrNoRoom
+then-late-or-no-room s e = (
+  (λ d piece r c. ap (λ x. x .answer) (c .exact ∙ check-late s piece e d)),
+  (λ d r c. ap (λ x. x .answer) (c .exact ∙ finish-late s e d)),
+  (λ before r after l c. c .exact ∙ unfold reportOf in rw (e, lt-ltb (length before) rowCount l)),
+)
+
+comes-sane : (c : Checked) → Comes c → c .answer ≡ Piece.Damaged → ⊥
+unfolding openOf stoppedOf
+comes-sane c (opens h t d) q = let z : _≡_ {A = ℕ} 0 1 = cc in omega arith
+comes-sane c (stops-by h t rule field d one most named) q = let z : _≡_ {A = ℕ} 0 1 = cc in omega arith
+
+piece-sane : (s : State) (piece : List ℕ) (c : Checked) → Pieces s piece c → c .answer ≡ Piece.Damaged → ⊥
+piece-sane s piece c (late d) q = let z : _≡_ {A = ℕ} 0 1 = cc in omega arith
+piece-sane s piece c (kept d z) q = let z : _≡_ {A = ℕ} 0 1 = cc in omega arith
+piece-sane s piece c (run d z comes) q = comes-sane c comes q
+
+finals-sane : (s : State) (a : FinalAnswer) → Finals s a → a ≡ Final.Damaged → ⊥
+finals-sane s a accepts q = let z : _≡_ {A = ℕ} 0 1 = cc in omega arith
+finals-sane s a short q = let z : _≡_ {A = ℕ} 0 1 = cc in omega arith
+finals-sane s a (keeps z) q = let z : _≡_ {A = ℕ} 0 1 = cc in omega arith
+
+finish-sane : (s : State) (c : Finished) → Finishing s c → c .answer ≡ Final.Damaged → ⊥
+finish-sane s c (late d) q = let z : _≡_ {A = ℕ} 0 1 = cc in omega arith
+finish-sane s c (closes d) q = finals-sane s (finalAnswerOf s) (finals s) q
+
+report-sane : (s : State) → rangedOf s ≡ true → (before : List ℕ) (r : ReportAnswer) (after : List ℕ) → AnyReport s before r after
+    → r ≡ Report.Damaged → ⊥
+report-sane s e before r after (damaged d) q = both e d
+report-sane s e before r after (no-room d) q = let z : _≡_ {A = ℕ} 0 1 = cc in omega arith
+report-sane s e before r after (writes d) q = let z : _≡_ {A = ℕ} 0 1 = cc in omega arith
+
+pub ranges-closed : D.RangesClosed
+ranges-closed s e = (
+  (λ piece r all c.
+      (c .inRange e, (λ q. piece-sane s piece (checkOf s piece) (check-pieces s e piece all) (sym (ap (λ x. x .answer) (c .exact)) ∙ q)))),
+  (λ r c. (c .inRange e, (λ q. finish-sane s (finishOf s) (finish-finishing s e) (sym (ap (λ x. x .answer) (c .exact)) ∙ q)))),
+  (λ before r after c q. report-sane s e before r after (report-any s before r after c) q),
+)
+
+pub given-in-range : D.GivenInRange
+given-in-range = given-ranged
+
+-- 17 to 19 alone have a number from 17 on
+module _ (s : State) where
+  comes-low : (c : Checked) → Comes c → numbersOf (said (c .answer)) .refusal ≤ 16
+  unfolding openOf stoppedOf numbersOf said
+  comes-low c (opens h t d) = omega arith
+  comes-low c (stops-by h t rule field d one most named) = most
+
+  abbrev Nothing : Numbers → State → ℕ → Type 0
+  Nothing k t n = (k ≡ numbers n 0 0 0 0) × (t ≡ s)
+
+  pieces-nothing : rangedOf s ≡ true → (piece : List ℕ) (c : Checked) → Pieces s piece c → (n : ℕ)
+      → numbersOf (said (c .answer)) .refusal ≡ n → 17 ≤ n → Nothing (numbersOf (said (c .answer))) (c .state) n
+  unfolding numbersOf said keptOf
+  pieces-nothing e piece c (late d) n q l = (rw q, refl)
+  pieces-nothing e piece c (kept d z) n q l = absurd (omega (arith, kept-refusal s e z .0))
+  pieces-nothing e piece c (run d z comes) n q l = absurd (omega (arith, comes-low c comes))
+
+  piece-nothing : (piece : List ℕ) (c : Checked) → AnyPiece s piece c → (n : ℕ)
+      → numbersOf (said (c .answer)) .refusal ≡ n → 17 ≤ n → Nothing (numbersOf (said (c .answer))) (c .state) n
+  unfolding numbersOf said
+  piece-nothing piece c (damaged e) n q l = (rw q, refl)
+  piece-nothing piece c (ranged e p) n q l = pieces-nothing e piece c p n q l
+
+  finals-low : rangedOf s ≡ true → (a : FinalAnswer) → Finals s a → numbersOf (finallySaid a) .refusal ≤ 16
+  unfolding numbersOf finallySaid keptOf
+  finals-low e a accepts = omega arith
+  finals-low e a short = omega arith
+  finals-low e a (keeps z) = kept-refusal s e z .0
+
+  finishing-nothing : rangedOf s ≡ true → (c : Finished) → Finishing s c → (n : ℕ)
+      → numbersOf (finallySaid (c .answer)) .refusal ≡ n → 17 ≤ n → Nothing (numbersOf (finallySaid (c .answer))) (c .state) n
+  unfolding numbersOf finallySaid
+  finishing-nothing e c (late d) n q l = (rw q, refl)
+  finishing-nothing e c (closes d) n q l = absurd (omega (arith, finals-low e (finalAnswerOf s) (finals s)))
+
+  finish-nothing : (c : Finished) → AnyFinish s c → (n : ℕ)
+      → numbersOf (finallySaid (c .answer)) .refusal ≡ n → 17 ≤ n → Nothing (numbersOf (finallySaid (c .answer))) (c .state) n
+  unfolding numbersOf finallySaid
+  finish-nothing c (damaged e) n q l = (rw q, refl)
+  finish-nothing c (ranged e p) n q l = finishing-nothing e c p n q l
+
+  report-nothing : (before : List ℕ) (r : ReportAnswer) (after : List ℕ) → AnyReport s before r after → (n : ℕ)
+      → reportSaid r .refusal ≡ n → 17 ≤ n → (reportSaid r ≡ numbers n 0 0 0 0) × (after ≡ before)
+  unfolding reportSaid
+  report-nothing before r after (damaged e) n q l = (rw q, refl)
+  report-nothing before r after (no-room e) n q l = (rw q, refl)
+  report-nothing before r after (writes e) n q l = absurd (omega arith)
+
+pub three-change-nothing : D.ThreeChangeNothing
+three-change-nothing = (
+  (λ s piece r all c n q l.
+      subst (λ x. Nothing s (numbersOf (said (x .answer))) (x .state) n) (sym (c .exact))
+      (piece-nothing s piece (checkOf s piece) (any-piece s piece all) n
+      (ap (λ x. numbersOf (said (x .answer)) .refusal) (sym (c .exact)) ∙ q) l)),
+  (λ s r c n q l.
+      subst (λ x. Nothing s (numbersOf (finallySaid (x .answer))) (x .state) n) (sym (c .exact))
+      (finish-nothing s (finishOf s) (any-finish s) n
+      (ap (λ x. numbersOf (finallySaid (x .answer)) .refusal) (sym (c .exact)) ∙ q) l)),
+  (λ s before r after c n q l. report-nothing s before r after (report-any s before r after c) n q l),
+)
+
+-- a state in range that keeps a refusal gives it to every piece, and to a finish
+module _ (s : State) (e : rangedOf s ≡ true) (d : s .finished ≡ false) (z : s .rule ≡ 0 → ⊥) where
+  final-kept : finalAnswerOf s ≡ Final.Refused (keptOf s)
+  unfolding finalAnswerOf
+  final-kept = rw (ne-eqb (s .rule) 0 z)
+
+  stays : (n : Numbers) → Piece.Refused (keptOf s) ≡ Piece.Refused n → Stays (unchanged (Piece.Refused (keptOf s)) s) n
+  stays n q =
+      let same : keptOf s ≡ n = cc in (
+        (λ next c p. p .exact ∙ check-kept s next e d z),
+        (λ c p. ap (λ x. x .answer) (p .exact ∙ finish-now s e d) ∙ final-kept ∙ ap Final.Refused same),
+      )
+
+comes-stays : (c : Checked) → Comes c → (n : Numbers) → c .answer ≡ Piece.Refused n → Stays c n
+unfolding openOf stoppedOf keptOf
+comes-stays c (opens h t d) n q = absurd (let z : _≡_ {A = ℕ} 0 1 = cc in omega arith)
+comes-stays c (stops-by h t rule field d one most named) n q =
+    stays (stoppedOf h t rule field .state) (stopped-ranged h t rule field d one most named) refl (λ z. omega arith) n q
+
+module _ (s : State) (piece : List ℕ) where
+  pieces-stay : rangedOf s ≡ true → (c : Checked) → Pieces s piece c → (n : Numbers) → c .answer ≡ Piece.Refused n → Stays c n
+  pieces-stay e c (late d) n q = absurd (let z : _≡_ {A = ℕ} 0 1 = cc in omega arith)
+  pieces-stay e c (kept d z) n q = stays s e d z n q
+  pieces-stay e c (run d z comes) n q = comes-stays c comes n q
+
+  piece-stays : (c : Checked) → AnyPiece s piece c → (n : Numbers) → c .answer ≡ Piece.Refused n → Stays c n
+  piece-stays c (damaged e) n q = absurd (let z : _≡_ {A = ℕ} 0 1 = cc in omega arith)
+  piece-stays c (ranged e p) n q = pieces-stay e c p n q
+
+pub refusal-stays : D.RefusalStays
+refusal-stays s piece r all c n q =
+    subst (λ x. Stays x n) (sym (c .exact))
+    (piece-stays s piece (checkOf s piece) (any-piece s piece all) n (ap (λ x. x .answer) (sym (c .exact)) ∙ q))
+
+-- after a finish the state is marked
+finishing-marks : (s : State) (c : Finished) → Finishing s c → c .state .finished ≡ true
+finishing-marks s c (late d) = d
+finishing-marks s c (closes d) = refl
+
+pub then-late : D.ThenLate
+then-late s r e c =
+    let in-range = c .inRange e in
+    let marked = ap (λ x. x .state .finished) (c .exact) ∙ finishing-marks s (finishOf s) (finish-finishing s e) in (
+      (λ piece q k. let p = k .exact ∙ check-late (r .state) piece in-range marked in (ap (λ x. x .answer) p, ap (λ x. x .state) p)),
+      (λ q k. let p = k .exact ∙ finish-late (r .state) in-range marked in (ap (λ x. x .answer) p, ap (λ x. x .state) p)),
+    )
+
+pub open-while-unrefused : D.OpenWhileUnrefused
+open-while-unrefused file s piece r h c n = c .joined file h ∙ none-broken-open (file ++ piece) n
+
+pub report-gives-them : D.ReportGivesThem
+report-gives-them file s before r after g c z = c .ended file g z
+
+-- a state in range with no refusal is the one that an empty piece leaves
+opened-again : (s : State) → s .finished ≡ false → s .rule ≡ 0 → s .field ≡ 0 → openOf (s .hot) (s .tally) .state ≡ s
+unfolding openOf
+opened-again s d z f = λ i. record { hot = s .hot; rule = sym z i; field = sym f i; finished = sym d i; tally = s .tally }
+
+empty-left : (s : State) → checkOf s [] .state ≡ s
+unfolding runOf
+empty-left s = go (rangedOf s) refl (s .finished) refl (eqb (s .rule) 0) refl
+  where
+    go : (t : Bool) → rangedOf s ≡ t → (f : Bool) → s .finished ≡ f → (z : Bool) → eqb (s .rule) 0 ≡ z → checkOf s [] .state ≡ s
+    go false e f d z q = ap (λ x. x .state) (check-damaged s [] e)
+    go true e true d z q = ap (λ x. x .state) (check-late s [] e d)
+    go true e false d false q = ap (λ x. x .state) (check-kept s [] e d (eqb-false (s .rule) 0 q))
+    go true e false d true q =
+        let none = eqb-true (s .rule) 0 q in
+        ap (λ x. x .state) (check-run s [] e d none) ∙ opened-again s d none (no-field s e none)
+
+pub empty-piece : D.EmptyPiece
+empty-piece s r c = ap (λ x. x .state) (c .exact) ∙ empty-left s
+
+pub report-at-any-time : D.ReportAtAnyTime
+report-at-any-time file s before r after g l c =
+    let e = given-ranged file s g in
+    let p : r ≡ Report.Written (s .hot .lines) (s .hot .bytes) = c .exact ∙ unfold reportOf in rw (e, le-ltb (length before) rowCount l) in
+    let z : reportSaid r .refusal ≡ 0 = ap (λ x. reportSaid x .refusal) p ∙ unfold reportSaid in refl in
+    (z, counts-98 file, c .counted file g z)
+
+pub one-result : D.OneResult
+one-result = (
+  (λ r q x y. x ∙ sym y),
+  (λ s piece r q x y. x .exact ∙ sym (y .exact)),
+  (λ s r q x y. x .exact ∙ sym (y .exact)),
+  (λ s before r q a b x y. (x .exact ∙ sym (y .exact), x .buffer ∙ sym (y .buffer))),
+)
