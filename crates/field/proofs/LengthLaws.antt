@@ -15,7 +15,8 @@ use Rattle.layout.specs.Packed.{kindNumber, codeClass, decimalsClass, sizeUnit}
 use Rattle.rules.specs.Fields.{isDigit}
 use Rattle.rules.specs.Rules.{byteLimit}
 use Rattle.field.specs.declared.bytes.Field.{Field}
-use Rattle.field.specs.Streaming.{FieldFit, cap, emptyField, longer, codeWith, valueWith, digitWith, textWith, decimalsWith, decimalWith, isPlain, isFixedClass, fixedText, withByte, fieldAfter}
+use Rattle.field.specs.Streaming.{FieldFit, cap, longer, wrongWith, codeWith, valueWith, digitWith, matches, textWith}
+use Rattle.field.specs.Streaming.{commaFits, decimalsWith, decimalWith, isPlain, isFixedClass, fixedText, withByte, fieldAfter}
 
 -- what holds of both choices holds of the choice
 either : {A : Type 0} (P : A → Type 0) (t : Bool) {a b : A} → P a → P b → P (pick t a b)
@@ -24,7 +25,7 @@ either P false p q = q
 
 -- what holds after one more byte of a field of each class holds after one more byte of any kind
 module _ (P : Field → Type 0) (kind : ℕ) (f : Field) (b : ℕ) where
-  pub by-class :
+  by-class :
       P (longer f (f .wrong) (f .value)) →
       P (codeWith f b) →
       P (decimalWith f b) →
@@ -39,7 +40,7 @@ module _ (P : Field → Type 0) (kind : ℕ) (f : Field) (b : ℕ) where
       (either P (eqb class decimalsClass) decimal
       (either P (isFixedClass class) (text (fixedText class)) digit)))
 
-one-longer : (kind : ℕ) (f : Field) (b : ℕ) → withByte kind f b .length ≡ f .length + 1
+pub one-longer : (kind : ℕ) (f : Field) (b : ℕ) → withByte kind f b .length ≡ f .length + 1
 unfolding textWith decimalWith digitWith
 one-longer kind f b =
     let P : Field → Type 0 = λ g. g .length ≡ f .length + 1 in
@@ -56,20 +57,21 @@ unfolding fieldAfter withByte isPlain kindNumber codeNumber
 code-is [] = refl
 code-is (b ∷ w) = ap (λ v. v % 16777216 * 256 + b) (code-is w)
 
-pub fit-fresh : FieldFit emptyField
-fit-fresh = record { length = omega arith; value = omega arith }
+-- one more byte keeps a field within its ranges
+fit-longer : (f : Field) → f .length ≤ byteLimit → (wrong value : ℕ) → wrong ≤ 1 → value ≤ cap → FieldFit (longer f wrong value)
+fit-longer f h wrong value w v = record { length = omega arith; wrong = w; value = v }
 
-fit-longer : (f : Field) → f .length ≤ byteLimit → (wrong value : ℕ) → value ≤ cap → FieldFit (longer f wrong value)
-fit-longer f h wrong value v = record { length = omega arith; value = v }
+marked-le : (right : Bool) (f : Field) → f .wrong ≤ 1 → wrongWith right f ≤ 1
+marked-le right f h = either (λ w. w ≤ 1) right h (omega arith)
 
 pub fit-after : {f : Field} {b : ℕ} → FieldFit f → b < 256 → f .length ≤ byteLimit → (kind : ℕ) → FieldFit (withByte kind f b)
 unfolding textWith decimalWith digitWith valueWith decimalsWith
 fit-after {f} {b} fit hb h kind =
     by-class FieldFit kind f b
-    (fit-longer f h _ _ (fit .value))
-    (fit-longer f h _ _ (omega (arith, mod-lt (f .value) {m = 16777216} (omega arith))))
+    (fit-longer f h _ _ (fit .wrong) (fit .value))
+    (fit-longer f h _ _ (fit .wrong) (omega (arith, mod-lt (f .value) {m = 16777216} (omega arith))))
     (either FieldFit (isDigit b)
-    (fit-longer f h _ _ (either (λ v. v ≤ cap) (eqb (f .value) 0) (omega arith) (omega arith)))
-    (fit-longer f h _ _ (omega arith)))
-    (λ text. fit-longer f h _ _ (fit .value))
-    (fit-longer f h _ _ (omega arith))
+    (fit-longer f h _ _ (fit .wrong) (either (λ v. v ≤ cap) (eqb (f .value) 0) (omega arith) (omega arith)))
+    (fit-longer f h _ _ (marked-le (commaFits f b) f (fit .wrong)) (omega arith)))
+    (λ text. fit-longer f h _ _ (marked-le (matches text (f .length) b) f (fit .wrong)) (fit .value))
+    (fit-longer f h _ _ (marked-le (isDigit b) f (fit .wrong)) (omega arith))

@@ -18,6 +18,7 @@ cap = byteLimit + 1
 -- what may be asked: the stored numbers' ranges
 pub record FieldFit (f : Field) : Type 0 where
   pub length : f .length ≤ byteLimit + 1
+  pub wrong : f .wrong ≤ 1
   pub value : f .value ≤ cap
 
 -- before the first byte

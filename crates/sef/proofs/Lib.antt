@@ -1,6 +1,5 @@
 pub mod RangeLaws
 pub mod FillLaws
-pub mod FieldRanges
 pub mod StepRanges
 pub mod TallyRanges
 pub mod RunLaws

@@ -13,7 +13,7 @@ use Rattle.layout.specs.Packed.{kindNumber, mostKind}
 use Rattle.rules.specs.Rules.{byteLimit}
 use Rattle.rules.proofs.TestLaws.{pick-le}
 use Rattle.layout.proofs.Below.{and-left, and-right}
-use Rattle.field.specs.Streaming.{emptyFault, contentFault, numberFault, textFault, faultOf}
+use Rattle.field.specs.Streaming.{FieldFit, emptyFault, contentFault, numberFault, textFault, faultOf}
 use Rattle.field.specs.declared.bytes.Field.{Field}
 use Rattle.line.specs.Machine.{HotFit, mostBars, data1, grownOf, movedOf, endedOf, sinceOf, codeBarOf, saysOf, fieldBarOf, barOf}
 use Rattle.line.specs.Machine.{controlOf, inFieldOf, pastOf, startOf, stepOf}
@@ -23,9 +23,8 @@ use Rattle.line.specs.declared.step.Step.{Step}
 use Rattle.line.specs.declared.step.Step.the-variants.{Next, Broken}
 use Rattle.layout.proofs.KindLaws.{kind-most}
 use Rattle.layout.proofs.RowLaws.{fields-most}
-use Rattle.field.proofs.LengthLaws.{fit-after}
+use Rattle.field.proofs.LengthLaws.{one-longer, fit-after}
 use Rattle.line.proofs.RowLaws.{word-row-le}
-use Rattle.sef.proofs.FieldRanges.{byte-length, byte-wrong}
 
 -- what a bar finds is 0 or a rule
 abbrev Rule : ℕ → Type 0
@@ -103,7 +102,8 @@ module _ (h : Hot) (f : HotFit h) (small : h .bytes < byteLimit) where
 
   grown-leads : (b : ℕ) → b < 256 → Leads h (Next (grownOf h b))
   grown-leads b byte =
-      let g = fit-after {f = h .field} {b = b} (record { length = omega (arith, f .length); value = f .value }) byte (omega (arith, f .length)) (h .kind) in
+      let fit : FieldFit (h .field) = record { length = omega (arith, f .length); wrong = f .wrong; value = f .value } in
+      let next = fit-after {f = h .field} {b = b} fit byte (omega (arith, f .length)) (h .kind) in
       goes {n = grownOf h b}
       (record {
         bytes = omega arith;
@@ -115,9 +115,9 @@ module _ (h : Hot) (f : HotFit h) (small : h .bytes < byteLimit) where
         row = f .row;
         fields = f .fields;
         kind = f .kind;
-        length = omega (arith, f .length, byte-length (h .kind) (h .field) b);
-        wrong = byte-wrong (h .kind) (h .field) b (f .wrong);
-        value = g .value;
+        length = omega (arith, f .length, one-longer (h .kind) (h .field) b);
+        wrong = next .wrong;
+        value = next .value;
       })
       refl small
 
