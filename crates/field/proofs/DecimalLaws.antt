@@ -36,7 +36,8 @@ not-first (suc v) = rw (after-comma v) (ne-eqb (min cap (suc v + 1)) 1 (λ e. om
 one-more : (v d : ℕ) → v < cap → eqb (decimalsWith v) (suc d + 1) ≡ eqb v (d + 1)
 unfolding decimalsWith
 one-more zero d h = same-test 0 (suc d + 1) 0 (d + 1) (λ e. omega arith) (λ e. omega arith)
-one-more (suc v) d h = rw (after-comma v) (same-test (min cap (suc v + 1)) (suc d + 1) (suc v) (d + 1) (λ e. omega arith) (λ e. omega arith))
+one-more (suc v) d h =
+    rw (after-comma v) (same-test (min cap (suc v + 1)) (suc d + 1) (suc v) (d + 1) (λ e. omega arith) (λ e. omega arith))
 
 few-on : (v n : ℕ) → v ≤ n → decimalsWith v ≤ suc n
 unfolding decimalsWith
@@ -61,7 +62,9 @@ decimal-first : (b d : ℕ) (w : List ℕ) → isDecimal (suc d) (b ∷ w) ≡ (
 unfolding isDecimal allDigits
 decimal-first b d w = go (isDigit b)
   where
-    go : (t : Bool) → (t && allDigits (take d w) && eqb (getD w d 0) comma && not (empty (drop (suc d) w)) && allDigits (drop (suc d) w)) ≡ (t && (allDigits (take d w) && eqb (getD w d 0) comma && not (empty (drop (suc d) w)) && allDigits (drop (suc d) w)))
+    go : (t : Bool)
+        → (t && allDigits (take d w) && eqb (getD w d 0) comma && not (empty (drop (suc d) w)) && allDigits (drop (suc d) w))
+        ≡ (t && (allDigits (take d w) && eqb (getD w d 0) comma && not (empty (drop (suc d) w)) && allDigits (drop (suc d) w)))
     go true = refl
     go false = refl
 
@@ -83,11 +86,13 @@ in-order true false false true = refl
 in-order true false false false = refl
 
 module _ (kind : ℕ) (on : (f : Field) (b : ℕ) → withByte kind f b ≡ decimalWith f b) where
-  on-digit : (b : ℕ) (w : List ℕ) → isDigit b ≡ true → fieldAfter kind (b ∷ w) ≡ longer (fieldAfter kind w) (fieldAfter kind w .wrong) (decimalsWith (fieldAfter kind w .value))
+  on-digit : (b : ℕ) (w : List ℕ) → isDigit b ≡ true
+      → fieldAfter kind (b ∷ w) ≡ longer (fieldAfter kind w) (fieldAfter kind w .wrong) (decimalsWith (fieldAfter kind w .value))
   unfolding fieldAfter decimalWith
   on-digit b w t = on (fieldAfter kind w) b ∙ rw t
 
-  on-other : (b : ℕ) (w : List ℕ) → isDigit b ≡ false → fieldAfter kind (b ∷ w) ≡ longer (fieldAfter kind w) (wrongWith (commaFits (fieldAfter kind w) b) (fieldAfter kind w)) 1
+  on-other : (b : ℕ) (w : List ℕ) → isDigit b ≡ false
+      → fieldAfter kind (b ∷ w) ≡ longer (fieldAfter kind w) (wrongWith (commaFits (fieldAfter kind w) b) (fieldAfter kind w)) 1
   unfolding fieldAfter decimalWith
   on-other b w t = on (fieldAfter kind w) b ∙ rw t
 
@@ -105,24 +110,31 @@ module _ (kind : ℕ) (on : (f : Field) (b : ℕ) → withByte kind f b ≡ deci
   whole-is (b ∷ w) =
       split (isDigit b)
       (λ t. rw (on-digit b w t, t, none-stays (fieldAfter kind w .value)) (whole-is w))
-      (λ t. rw (on-other b w t, t) (and-no-right (eqb (pick (commaFits (fieldAfter kind w) b) (fieldAfter kind w .wrong) 1) 0) false refl))
+      (λ t. rw (on-other b w t, t)
+      (and-no-right (eqb (pick (commaFits (fieldAfter kind w) b) (fieldAfter kind w .wrong) 1) 0) false refl))
 
   -- a comma: right exactly if digits stand before it, and no other comma
-  comma-is : (b : ℕ) (w : List ℕ) → isDigit b ≡ false → (eqb (fieldAfter kind (b ∷ w) .wrong) 0 && eqb (fieldAfter kind (b ∷ w) .value) 1) ≡ isDecimal 0 (b ∷ w)
+  comma-is : (b : ℕ) (w : List ℕ) → isDigit b ≡ false
+      → (eqb (fieldAfter kind (b ∷ w) .wrong) 0 && eqb (fieldAfter kind (b ∷ w) .value) 1) ≡ isDecimal 0 (b ∷ w)
   unfolding commaFits
   comma-is b w t =
       let f = fieldAfter kind w in
       rw (on-other b w t, right-on (commaFits f b) (f .wrong), comma-first b w, ← whole-is w, ← some w, ← length-is kind w)
       (in-order (eqb b comma) (eqb (f .value) 0) (ltb 0 (f .length)) (eqb (f .wrong) 0))
 
-  pub decimals-is : (d : ℕ) (w : List ℕ) → length w ≤ cap → (eqb (fieldAfter kind w .wrong) 0 && eqb (fieldAfter kind w .value) (d + 1)) ≡ isDecimal d w
+  pub decimals-is : (d : ℕ) (w : List ℕ) → length w ≤ cap
+      → (eqb (fieldAfter kind w .wrong) 0 && eqb (fieldAfter kind w .value) (d + 1)) ≡ isDecimal d w
   unfolding fieldAfter
   decimals-is d [] h = rw (no-bytes d) (ne-eqb 0 (d + 1) (λ e. omega arith))
   decimals-is zero (b ∷ w) h =
       split (isDigit b)
-      (λ t. rw (on-digit b w t, not-first (fieldAfter kind w .value), comma-first b w, no-digit b t) (and-no-right (eqb (fieldAfter kind w .wrong) 0) false refl))
+      (λ t. rw (on-digit b w t, not-first (fieldAfter kind w .value), comma-first b w, no-digit b t)
+      (and-no-right (eqb (fieldAfter kind w .wrong) 0) false refl))
       (comma-is b w)
   decimals-is (suc d) (b ∷ w) h =
       split (isDigit b)
-      (λ t. rw (on-digit b w t, one-more (fieldAfter kind w .value) d (omega (arith, few w)), decimal-first b d w, t) (decimals-is d w (omega arith)))
-      (λ t. rw (on-other b w t, decimal-first b d w, t) (and-no-right (eqb (wrongWith (commaFits (fieldAfter kind w) b) (fieldAfter kind w)) 0) (eqb 1 (suc d + 1)) (ne-eqb 1 (suc d + 1) (λ e. omega arith))))
+      (λ t. rw (on-digit b w t, one-more (fieldAfter kind w .value) d (omega (arith, few w)), decimal-first b d w, t)
+      (decimals-is d w (omega arith)))
+      (λ t. rw (on-other b w t, decimal-first b d w, t)
+      (and-no-right (eqb (wrongWith (commaFits (fieldAfter kind w) b) (fieldAfter kind w)) 0) (eqb 1 (suc d + 1))
+      (ne-eqb 1 (suc d + 1) (λ e. omega arith))))

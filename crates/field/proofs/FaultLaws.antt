@@ -11,11 +11,14 @@ use borrow.Author.Tests.{ne-eqb, eqb-true, eqb-false, lt-leb, le-ltb, lt-ltb, le
 use Rattle.layout.specs.Pick.{pick}
 use Rattle.layout.specs.Text.{bytes}
 use Rattle.layout.specs.Kinds.{Kind, codeField, free, C, N, N-, decimals, date, lfpd, brasil, opens, count}
-use Rattle.layout.specs.Packed.{kindNumber, sizeUnit, cClass, nClass, nAnyClass, decimalsClass, dateClass, lfpdClass, brasilClass, opensClass, countClass}
+use Rattle.layout.specs.Packed.{kindNumber, sizeUnit, cClass, nClass, nAnyClass, decimalsClass}
+use Rattle.layout.specs.Packed.{dateClass, lfpdClass, brasilClass, opensClass, countClass}
 use Rattle.rules.specs.Bytes.{empty}
 use Rattle.rules.specs.Fields.{isDigit, allDigits, value, isDecimal, isDate, sameBytes, isText, formOf, states}
 use Rattle.field.specs.declared.bytes.Field.{Field}
-use Rattle.field.specs.Streaming.{cap, digitWith, textWith, decimalWith, isPlain, withByte, fieldAfter, emptyFault, rightForm, isExact, rightSize, contentFault, numberFault, textFault, isTextClass, faultOf}
+use Rattle.field.specs.Streaming.{cap, digitWith, textWith, decimalWith, isPlain, withByte}
+use Rattle.field.specs.Streaming.{fieldAfter, emptyFault, rightForm, isExact, rightSize, contentFault}
+use Rattle.field.specs.Streaming.{numberFault, textFault, isTextClass, faultOf}
 use Rattle.field.specs.Ruled.{ruled}
 use Rattle.rules.proofs.TestLaws.{split, and-left}
 use Rattle.field.proofs.Picks.{and-first}
@@ -35,7 +38,8 @@ class-of c n h = add-mul-mod-self-left c sizeUnit n ∙ mod-eq-of-lt h
 size-of : (c n : ℕ) → c < sizeUnit → (c + sizeUnit * n) / sizeUnit ≡ n
 size-of c n h = add-mul-div-left c n {y = sizeUnit} (omega arith) ∙ ap (λ k. k + n) (div-eq-of-lt h) ∙ omega arith
 
-fault-at : (c n : ℕ) (f : Field) (due : ℕ) → c < sizeUnit → faultOf (c + sizeUnit * n) f due ≡ pick (ltb c cClass) 0 (pick (isTextClass c) (textFault c n f) (numberFault c n f due))
+fault-at : (c n : ℕ) (f : Field) (due : ℕ) → c < sizeUnit
+    → faultOf (c + sizeUnit * n) f due ≡ pick (ltb c cClass) 0 (pick (isTextClass c) (textFault c n f) (numberFault c n f due))
 unfolding faultOf
 fault-at c n f due h = rw (class-of c n h, size-of c n h)
 
@@ -65,11 +69,12 @@ C-bar s due (b ∷ w) =
     fault-at cClass s (fieldAfter (kindNumber (C s)) (b ∷ w)) due (omega arith)
     ∙ ap (λ n. pick (ltb s n) 11 0) (length-is (kindNumber (C s)) (b ∷ w)) ∙ ap (λ t. pick t 11 0) (over s (suc (length w)))
 
-module _ (kind c : ℕ) (text : List ℕ) (on : (f : Field) (b : ℕ) → withByte kind f b ≡ textWith text f b) (other : eqb c cClass ≡ false) where
-  text-bar : (w : List ℕ) → textFault c (length text) (fieldAfter kind w) ≡ pick (not (leb (length w) (length text))) 11 (pick (not (sameBytes w (reverse text))) 12 0)
-  unfolding textFault
-  text-bar w =
-      rw (text-is kind text on w, other, length-is kind w, over (length text) (length w), turned (sameBytes w (reverse text)) 12)
+text-bar : (kind c : ℕ) (text : List ℕ) → ((f : Field) (b : ℕ) → withByte kind f b ≡ textWith text f b) → eqb c cClass ≡ false
+    → (w : List ℕ) → textFault c (length text) (fieldAfter kind w)
+    ≡ pick (not (leb (length w) (length text))) 11 (pick (not (sameBytes w (reverse text))) 12 0)
+unfolding textFault
+text-bar kind c text on other w =
+    rw (text-is kind text on w, other, length-is kind w, over (length text) (length w), turned (sameBytes w (reverse text)) 12)
 
 lfpd-bar : (due : ℕ) (w : List ℕ) → Agrees lfpd due w
 unfolding kindNumber faultOf isTextClass withByte isPlain fieldAfter ruled formOf empty isText bytes
@@ -82,12 +87,14 @@ brasil-bar due [] = text-bar (kindNumber brasil) brasilClass (bytes "Brasil") (�
 brasil-bar due (b ∷ w) = text-bar (kindNumber brasil) brasilClass (bytes "Brasil") (λ f b. refl) refl (b ∷ w)
 
 -- numbers: the form, the size, and then what the content is asked
-in-turn : (form size : Bool) (x y : ℕ) → (form ≡ true → size ≡ true → x ≡ y) → pick form (pick size x 11) 10 ≡ pick (not form) 10 (pick (not size) 11 y)
+in-turn : (form size : Bool) (x y : ℕ) → (form ≡ true → size ≡ true → x ≡ y)
+    → pick form (pick size x 11) 10 ≡ pick (not form) 10 (pick (not size) 11 y)
 in-turn true true x y h = h refl refl
 in-turn true false x y h = refl
 in-turn false size x y h = refl
 
-number-bar : (c n : ℕ) (f : Field) (due l v : ℕ) (form : Bool) → rightForm c n f ≡ form → f .length ≡ suc l → f .value ≡ v → numberFault c n f due ≡ pick form (pick (rightSize c n (suc l)) (contentFault c v due) 11) 10
+number-bar : (c n : ℕ) (f : Field) (due l v : ℕ) (form : Bool) → rightForm c n f ≡ form → f .length ≡ suc l → f .value ≡ v
+    → numberFault c n f due ≡ pick form (pick (rightSize c n (suc l)) (contentFault c v due) 11) 10
 unfolding numberFault
 number-bar c n f due l v form p q r = rw (p, q, r, ne-eqb (suc l) 0 (λ e. omega arith))
 
@@ -98,7 +105,8 @@ module _ (kind c n : ℕ) (on : (f : Field) (b : ℕ) → withByte kind f b ≡ 
       let right = eqb (fieldAfter kind w .wrong) 0 in
       rw other (sym (and-first right right true refl refl) ∙ digits-right kind on w)
 
-  digits-bar : (due b : ℕ) (w : List ℕ) → numberFault c n (fieldAfter kind (b ∷ w)) due ≡ pick (allDigits (b ∷ w)) (pick (rightSize c n (suc (length w))) (contentFault c (min cap (value (b ∷ w))) due) 11) 10
+  digits-bar : (due b : ℕ) (w : List ℕ) → numberFault c n (fieldAfter kind (b ∷ w)) due
+      ≡ pick (allDigits (b ∷ w)) (pick (rightSize c n (suc (length w))) (contentFault c (min cap (value (b ∷ w))) due) 11) 10
   digits-bar due b w =
       number-bar c n (fieldAfter kind (b ∷ w)) due (length w) (min cap (value (b ∷ w))) (allDigits (b ∷ w)) (digits-form (b ∷ w))
       (length-is kind (b ∷ w)) (digits-value kind on (b ∷ w))
@@ -111,13 +119,16 @@ N-bar : (s due : ℕ) (w : List ℕ) → Agrees (N s) due w
 unfolding kindNumber isTextClass fieldAfter numberFault emptyFault rightSize isExact contentFault ruled formOf empty
 N-bar s due [] = fault-at nClass s (fieldAfter (kindNumber (N s)) []) due (omega arith)
 N-bar s due (b ∷ w) =
-    fault-at nClass s (fieldAfter (kindNumber (N s)) (b ∷ w)) due (omega arith) ∙ digits-bar (kindNumber (N s)) nClass s (N-on s) refl due b w
+    fault-at nClass s (fieldAfter (kindNumber (N s)) (b ∷ w)) due (omega arith)
+    ∙ digits-bar (kindNumber (N s)) nClass s (N-on s) refl due b w
     ∙ in-turn (allDigits (b ∷ w)) (eqb (suc (length w)) s) 0 0 (λ p q. refl)
 
 N--bar : (due : ℕ) (w : List ℕ) → Agrees N- due w
-unfolding kindNumber faultOf isTextClass withByte isPlain fieldAfter numberFault emptyFault rightSize isExact contentFault ruled formOf empty
+unfolding kindNumber faultOf isTextClass withByte isPlain fieldAfter
+    numberFault emptyFault rightSize isExact contentFault ruled formOf empty
 N--bar due [] = refl
-N--bar due (b ∷ w) = digits-bar (kindNumber N-) nAnyClass 0 (λ f b. refl) refl due b w ∙ in-turn (allDigits (b ∷ w)) true 0 0 (λ p q. refl)
+N--bar due (b ∷ w) =
+    digits-bar (kindNumber N-) nAnyClass 0 (λ f b. refl) refl due b w ∙ in-turn (allDigits (b ∷ w)) true 0 0 (λ p q. refl)
 
 decimals-on : (d : ℕ) (f : Field) (b : ℕ) → withByte (kindNumber (decimals d)) f b ≡ decimalWith f b
 unfolding kindNumber withByte isPlain
@@ -129,7 +140,8 @@ decimals-bar d due [] h = fault-at decimalsClass d (fieldAfter (kindNumber (deci
 decimals-bar d due (b ∷ w) h =
     let f = fieldAfter (kindNumber (decimals d)) (b ∷ w) in
     fault-at decimalsClass d f due (omega arith)
-    ∙ number-bar decimalsClass d f due (length w) (f .value) (isDecimal d (b ∷ w)) (decimals-is (kindNumber (decimals d)) (decimals-on d) d (b ∷ w) h)
+    ∙ number-bar decimalsClass d f due (length w) (f .value) (isDecimal d (b ∷ w))
+    (decimals-is (kindNumber (decimals d)) (decimals-on d) d (b ∷ w) h)
     (length-is (kindNumber (decimals d)) (b ∷ w)) refl
     ∙ in-turn (isDecimal d (b ∷ w)) true 0 0 (λ p q. refl)
 
@@ -138,7 +150,8 @@ whole : (w : List ℕ) → allDigits w ≡ true → length w ≡ 8 → min cap (
 whole w p e = let h : value w < 10 ^ 8 = rw e at (value-below w p) in omega arith
 
 date-bar : (due : ℕ) (w : List ℕ) → Agrees date due w
-unfolding kindNumber faultOf isTextClass withByte isPlain fieldAfter numberFault emptyFault rightSize isExact contentFault ruled formOf empty
+unfolding kindNumber faultOf isTextClass withByte isPlain fieldAfter
+    numberFault emptyFault rightSize isExact contentFault ruled formOf empty
 date-bar due [] = refl
 date-bar due (b ∷ w) =
     let v = value (b ∷ w) in
@@ -155,13 +168,15 @@ zero-or-one b h =
     (λ s. rw (eqb-true b 49 s))
     (λ s. rw (t, s) (lt-leb (min cap (0 + (b - 48))) 1 (omega (arith, eqb-false b 48 t, eqb-false b 49 s)))))
 
-one-digit : (b : ℕ) (w : List ℕ) → allDigits (b ∷ w) ≡ true → eqb (suc (length w)) 1 ≡ true → leb (min cap (value (b ∷ w))) 1 ≡ (isText "0" (b ∷ w) || isText "1" (b ∷ w))
+one-digit : (b : ℕ) (w : List ℕ) → allDigits (b ∷ w) ≡ true → eqb (suc (length w)) 1 ≡ true
+    → leb (min cap (value (b ∷ w))) 1 ≡ (isText "0" (b ∷ w) || isText "1" (b ∷ w))
 unfolding isDigit allDigits value isText sameBytes bytes
 one-digit b [] p q = zero-or-one b (leb-true 48 b (and-left (leb 48 b) (leb b 57) (and-left (isDigit b) true p)))
 one-digit b (c ∷ w) p q = absurd (let e = eqb-true (suc (suc (length w))) 1 q in omega arith)
 
 opens-bar : (due : ℕ) (w : List ℕ) → Agrees opens due w
-unfolding kindNumber faultOf isTextClass withByte isPlain fieldAfter numberFault emptyFault rightSize isExact contentFault ruled formOf empty isText sameBytes bytes
+unfolding kindNumber faultOf isTextClass withByte isPlain fieldAfter numberFault
+    emptyFault rightSize isExact contentFault ruled formOf empty isText sameBytes bytes
 opens-bar due [] = refl
 opens-bar due (b ∷ w) =
     let text = isText "0" (b ∷ w) || isText "1" (b ∷ w) in
@@ -170,7 +185,8 @@ opens-bar due (b ∷ w) =
     (λ p q. ap (λ t. pick t 0 12) (one-digit b w p q) ∙ turned text 12)
 
 count-bar : (due : ℕ) (w : List ℕ) → due < cap → Agrees count due w
-unfolding kindNumber faultOf isTextClass withByte isPlain fieldAfter numberFault emptyFault rightSize isExact contentFault ruled formOf states empty
+unfolding kindNumber faultOf isTextClass withByte isPlain fieldAfter numberFault
+    emptyFault rightSize isExact contentFault ruled formOf states empty
 count-bar due [] h = refl
 count-bar due (b ∷ w) h =
     let v = value (b ∷ w) in
@@ -179,7 +195,8 @@ count-bar due (b ∷ w) h =
     (λ p q. rw (capped-is v due h) (turned (eqb v due) 13))
 
 -- at every kind; a word longer than the cap could have more decimals than are counted
-pub fault-is : (k : Kind) (due : ℕ) (w : List ℕ) → due < cap → length w ≤ cap → faultOf (kindNumber k) (fieldAfter (kindNumber k) w) due ≡ ruled (formOf k) due w
+pub fault-is : (k : Kind) (due : ℕ) (w : List ℕ) → due < cap → length w ≤ cap
+    → faultOf (kindNumber k) (fieldAfter (kindNumber k) w) due ≡ ruled (formOf k) due w
 fault-is codeField due w h l = code-bar due w
 fault-is free due w h l = free-bar due w
 fault-is (C s) due w h l = C-bar s due w
@@ -197,6 +214,7 @@ pub free-fault : (kind : ℕ) (f : Field) (due : ℕ) → kind ≡ 0 → faultOf
 unfolding faultOf
 free-fault kind f due e = rw e
 
-pub countless-fault : (kind : ℕ) (f : Field) (m n : ℕ) → eqb (kind % sizeUnit) countClass ≡ false → faultOf kind f m ≡ faultOf kind f n
+pub countless-fault : (kind : ℕ) (f : Field) (m n : ℕ) → eqb (kind % sizeUnit) countClass ≡ false
+    → faultOf kind f m ≡ faultOf kind f n
 unfolding faultOf numberFault contentFault
 countless-fault kind f m n e = rw e

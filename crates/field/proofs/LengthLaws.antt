@@ -16,7 +16,8 @@ use Rattle.rules.specs.Fields.{isDigit}
 use Rattle.rules.specs.Rules.{byteLimit}
 use Rattle.field.specs.declared.bytes.Field.{Field}
 use Rattle.field.specs.Streaming.{FieldFit, cap, longer, wrongWith, codeWith, valueWith, digitWith, matches, textWith}
-use Rattle.field.specs.Streaming.{commaFits, decimalsWith, decimalWith, isPlain, isFixedClass, fixedText, withByte, fieldAfter}
+use Rattle.field.specs.Streaming.{commaFits, decimalsWith, decimalWith, isPlain, isFixedClass, fixedText, withByte}
+use Rattle.field.specs.Streaming.{fieldAfter}
 
 -- what holds of both choices holds of the choice
 either : {A : Type 0} (P : A → Type 0) (t : Bool) {a b : A} → P a → P b → P (pick t a b)

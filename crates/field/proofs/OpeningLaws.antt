@@ -19,7 +19,8 @@ use Rattle.rules.proofs.TestLaws.{split}
 use Rattle.field.proofs.TextLaws.{same-eq}
 
 -- where no rule is broken the content is right
-content-right : (characters size content : Bool) → _≡_ {A = ℕ} (pick characters 10 (pick size 11 (pick (not content) 12 0))) 0 → content ≡ true
+content-right : (characters size content : Bool) → _≡_ {A = ℕ} (pick characters 10 (pick size 11 (pick (not content) 12 0))) 0
+    → content ≡ true
 content-right true size content e = absurd (omega arith)
 content-right false true content e = absurd (omega arith)
 content-right false false true e = refl
@@ -28,14 +29,13 @@ content-right false false false e = absurd (omega arith)
 digit-text : (due : ℕ) (w : List ℕ) → ruled (formOf opens) due w ≡ 0 → (w ≡ 48 ∷ []) ⊎ (w ≡ 49 ∷ [])
 unfolding ruled formOf isText bytes
 digit-text due w e =
+    let filled = not (empty w) in
+    let right = content-right (filled && not (allDigits w)) (filled && not (eqb (length w) 1)) (isText "0" w || isText "1" w) e in
     split (isText "0" w)
     (λ t. inl (same-eq w (48 ∷ []) t))
-    (λ t. inr (same-eq w (49 ∷ []) (rw t at (content-right (not (empty w) && not (allDigits w)) (not (empty w) && not (eqb (length w) 1)) (isText "0" w || isText "1" w) e))))
+    (λ t. inr (same-eq w (49 ∷ []) (rw t at right)))
 
-pub opens-zero : (due : ℕ) (w : List ℕ) → ruled (formOf opens) due w ≡ 0 → isText "0" w ≡ eqb (fieldAfter (kindNumber opens) w .value) 0
+pub opens-zero : (due : ℕ) (w : List ℕ) → ruled (formOf opens) due w ≡ 0
+    → isText "0" w ≡ eqb (fieldAfter (kindNumber opens) w .value) 0
 unfolding isText sameBytes bytes kindNumber fieldAfter withByte isPlain digitWith valueWith
 opens-zero due w e = ⊎-elim (λ p. rw p) (λ p. rw p) (digit-text due w e)
-
-pub opens-one : (due : ℕ) (w : List ℕ) → ruled (formOf opens) due w ≡ 0 → isText "1" w ≡ eqb (fieldAfter (kindNumber opens) w .value) 1
-unfolding isText sameBytes bytes kindNumber fieldAfter withByte isPlain digitWith valueWith
-opens-one due w e = ⊎-elim (λ p. rw p) (λ p. rw p) (digit-text due w e)

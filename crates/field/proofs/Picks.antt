@@ -76,6 +76,10 @@ thus-no r t p q = sym p ∙ not-true r q
 pub thus-yes : (r t : Bool) → r ≡ t → not r ≡ false → t ≡ true
 thus-yes r t p q = sym p ∙ not-false r q
 
-pub ruleset tests = (refl, eq-eqb, ne-eqb, le-leb, lt-leb, lt-ltb, le-ltb, and-yes, and-no-left, and-no-right, or-yes-left, or-yes-right, or-no, not-yes, not-no)
+pub ruleset compared = (refl, eq-eqb, ne-eqb, le-leb, lt-leb, lt-ltb, le-ltb)
 
-pub ruleset called = (then-pick, else-pick, same-field, tests, true-is, false-is, and-rest, and-first, or-rest, or-first, thus, thus-no, thus-yes)
+pub ruleset tests = (compared, and-yes, and-no-left, and-no-right, or-yes-left, or-yes-right, or-no, not-yes, not-no)
+
+pub ruleset answers = (true-is, false-is, and-rest, and-first, or-rest, or-first, thus, thus-no, thus-yes)
+
+pub ruleset called = (then-pick, else-pick, same-field, tests, answers)

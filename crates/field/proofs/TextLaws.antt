@@ -49,18 +49,21 @@ take-fits : (text : List ℕ) (k : ℕ) → k ≤ length text → fits text (rev
 unfolding fits matches
 take-fits text zero h = refl
 take-fits text (suc k) h =
-    rw (one-more text k (omega arith), length-reverse (take k text), length-take-le k text (omega arith), eq-eqb (getD text k 256) (getD text k 256) refl)
+    let short = length-take-le k text (omega arith) in
+    rw (one-more text k (omega arith), length-reverse (take k text), short, eq-eqb (getD text k 256) (getD text k 256) refl)
     (take-fits text k (omega arith))
 
 -- what fits the text and is as long is the text
 fits-whole : (text w : List ℕ) → (fits text w && eqb (length w) (length text)) ≡ sameBytes w (reverse text)
 fits-whole text w = go (fits text w) refl (eqb (length w) (length text)) refl (sameBytes w (reverse text)) refl
   where
-    go : (f : Bool) → fits text w ≡ f → (l : Bool) → eqb (length w) (length text) ≡ l → (s : Bool) → sameBytes w (reverse text) ≡ s → (f && l) ≡ s
+    go : (f : Bool) → fits text w ≡ f → (l : Bool) → eqb (length w) (length text) ≡ l → (s : Bool)
+        → sameBytes w (reverse text) ≡ s → (f && l) ≡ s
     go true a true b true c = refl
     go true a true b false c =
         let n = eqb-true (length w) (length text) b in
-        let e : w ≡ reverse text = fits-take text w (omega arith) a ∙ ap (λ k. reverse (take k text)) n ∙ ap reverse (take-length text) in
+        let whole = ap (λ k. reverse (take k text)) n ∙ ap reverse (take-length text) in
+        let e : w ≡ reverse text = fits-take text w (omega arith) a ∙ whole in
         sym (same-refl (reverse text)) ∙ ap (λ v. sameBytes v (reverse text)) (sym e) ∙ c
     go true a false b true c =
         absurd (eqb-false (length w) (length text) b (ap length (same-eq w (reverse text) c) ∙ length-reverse text))

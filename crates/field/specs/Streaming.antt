@@ -6,7 +6,8 @@ use lib.Dec.{eqb, leb, ltb}
 use lib.ListN.{getD}
 use Rattle.layout.specs.Pick.{pick}
 use Rattle.layout.specs.Text.{bytes}
-use Rattle.layout.specs.Packed.{brasilClass, cClass, codeClass, countClass, dateClass, decimalsClass, freeClass, lfpdClass, nClass, opensClass, sizeUnit}
+use Rattle.layout.specs.Packed.{brasilClass, cClass, codeClass, countClass, dateClass, decimalsClass, freeClass, lfpdClass}
+use Rattle.layout.specs.Packed.{nClass, opensClass, sizeUnit}
 use Rattle.rules.specs.Fields.{isDigit, isDate, comma}
 use Rattle.rules.specs.Rules.{byteLimit}
 use Rattle.field.specs.declared.bytes.Field.{Field}

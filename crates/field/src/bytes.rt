@@ -2,7 +2,8 @@
 ghost use mathlib.Core.Path.{_≡_};
 ghost use Prim.Native.Nat.{_≤_};
 ghost use Rattle.rules.specs.Fields.{isDigit};
-ghost use Rattle.field.specs.Streaming.{FieldFit, cap, emptyField, codeWith, valueWith, digitWith, matches, textWith, commaFits, decimalsWith, decimalWith, isPlain, isFixedClass, fixedText, withByte};
+ghost use Rattle.field.specs.Streaming.{FieldFit, cap, emptyField, codeWith, valueWith, digitWith, matches, textWith};
+ghost use Rattle.field.specs.Streaming.{commaFits, decimalsWith, decimalWith, isPlain, isFixedClass, fixedText, withByte};
 
 // The classes of kinds: a kind's number is its class plus CLASSES times its size.
 pub const CLASSES: u64 = layout::kinds::SIZE as u64;

@@ -1,6 +1,7 @@
 // What the bar after a field finds: the broken rule's number, 0 where none is broken.
 ghost use mathlib.Core.Path.{_≡_};
-ghost use Rattle.field.specs.Streaming.{emptyFault, rightForm, isExact, rightSize, contentFault, numberFault, isFixed, textFault, isTextClass, faultOf};
+ghost use Rattle.field.specs.Streaming.{emptyFault, rightForm, isExact, rightSize, contentFault, numberFault, isFixed};
+ghost use Rattle.field.specs.Streaming.{textFault, isTextClass, faultOf};
 use crate::bytes::CLASSES;
 use crate::bytes::COUNT;
 use crate::bytes::DATE;

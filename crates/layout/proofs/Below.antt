@@ -5,27 +5,20 @@ use mathlib.Core.Logic.{⊎-elim}
 use Prim.Native.Nat.{ℕ, zero, suc, _<_, _≤_}
 use native.Mathlib.Nat.{not-suc-le-zero, le-of-suc-le-suc, eq-or-lt-of-le}
 use lib.Dec.{T, eqb, leb, eqb→eq, leb→le}
+use lib.Ieee.Fits.{and-l, and-r}
 
 -- the test passes at each number below n
 unfoldable pub below : ℕ → (ℕ → Bool) → Bool
 below zero test = true
 below (suc n) test = test n && below n test
 
-pub and-left : (a b : Bool) → T (a && b) → T a
-and-left true b t = tt
-and-left false b t = t
-
-pub and-right : (a b : Bool) → T (a && b) → T b
-and-right true b t = t
-and-right false b t = absurd t
-
 pub below-at : (n : ℕ) (test : ℕ → Bool) → T (below n test) → (k : ℕ) → k < n → T (test k)
 unfolding below
 below-at zero test t k h = absurd (not-suc-le-zero h)
 below-at (suc n) test t k h =
     ⊎-elim
-    (λ (e : k ≡ n). rw e (and-left (test n) (below n test) t))
-    (λ (l : k < n). below-at n test (and-right (test n) (below n test) t) k l)
+    (λ (e : k ≡ n). rw e (and-l (test n) (below n test) t))
+    (λ (l : k < n). below-at n test (and-r (test n) (below n test) t) k l)
     (eq-or-lt-of-le (le-of-suc-le-suc h))
 
 -- the agree as the rule that the test computes
@@ -49,7 +42,7 @@ pub below-same : (n : ℕ) (f g : ℕ → Bool) → T (below n (λ k. agree (f k
 below-same n f g t k h = same-equal (f k) (g k) (below-at n (λ k. agree (f k) (g k)) t k h)
 
 -- of the numbers below n, those that are of a sort pass the test
-abbrev pub implies : Bool → Bool → Bool
+abbrev implies : Bool → Bool → Bool
 implies true b = b
 implies false b = true
 
@@ -62,7 +55,3 @@ those n sort test = below n (λ k. implies (sort k) (test k))
 pub those-at : (n : ℕ) (sort test : ℕ → Bool) → T (those n sort test) → (k : ℕ) → k < n → sort k ≡ true → T (test k)
 unfolding those
 those-at n sort test t k h e = implied (sort k) (test k) e (below-at n (λ k. implies (sort k) (test k)) t k h)
-
-pub is-true : (t : Bool) → T t → t ≡ true
-is-true true h = refl
-is-true false h = absurd h

@@ -1,21 +1,15 @@
--- Rules of the blocks: their rows stand together, and the rows of level 0 and 1 are 0000, the openings, the closings and 9999.
+-- Rules of the blocks: the rows of level 0 and 1 are 0000, the openings, the closings and 9999, and a closing has its opening
+-- above it.
 use mathlib.Core.Path.{_≡_}
 use mathlib.Core.Bool.{Bool, true, _||_}
-use Prim.Native.Nat.{ℕ, suc, _-_, _<_, _≤_}
-use native.Mathlib.Omega.{arith}
-use lib.Dec.{T, eqb, leb, ltb, eqb→eq, ltb→lt}
+use Prim.Native.Nat.{ℕ, _<_}
+use lib.Dec.{T, eqb, ltb, eqb→eq, ltb→lt}
+use lib.Ieee.Bits.{is-true}
 use borrow.Author.Tests.{lt-ltb}
 use Rattle.layout.specs.Text.{bytes, codeNumber, textNumber}
-use Rattle.layout.specs.Rows.{rowTable, rowCount, listed, code, level, block, placeOf, blockLetters, lastAmong, isOpening, isClosing, opening, row0000, row9999}
-use Rattle.layout.proofs.Below.{below, below-most, those, those-at, is-true}
-
--- the blocks come in order
-together : T (below (rowCount - 1) (λ r. leb (block r) (block (suc r))))
-unfolding below block placeOf blockLetters code listed rowTable textNumber codeNumber bytes
-together = tt
-
-pub blocks-together : (r : ℕ) → suc r < rowCount → block r ≤ block (suc r)
-blocks-together r h = below-most (rowCount - 1) block (λ r. block (suc r)) together r (omega arith)
+use Rattle.layout.specs.Rows.{rowTable, rowCount, listed, code, level, block, placeOf, blockLetters}
+use Rattle.layout.specs.Rows.{lastAmong, isOpening, isClosing, opening, row0000, row9999}
+use Rattle.layout.proofs.Below.{below, those, those-at}
 
 -- the rows that no parent row holds
 abbrev shallow : ℕ → Bool
@@ -51,7 +45,8 @@ abbrev before : ℕ → Bool
 before r = ltb (opening r) r
 
 ends : T (those rowCount isClosing opens) × T (those rowCount isClosing sameBlock) × T (those rowCount isClosing before)
-unfolding those below isOpening isClosing opening lastAmong block placeOf blockLetters code listed rowTable textNumber codeNumber bytes
+unfolding those below isOpening isClosing opening lastAmong block
+    placeOf blockLetters code listed rowTable textNumber codeNumber bytes
 ends = (tt, tt, tt)
 
 module _ (r : ℕ) (h : r < rowCount) (closes : isClosing r ≡ true) where

@@ -1,10 +1,10 @@
--- Rules of the codes: the row of a code has that code, and no two rows have the same.
-use mathlib.Core.Path.{_≡_, refl, sym, ap, _∙_}
+-- Rules of the codes: the row of a code has that code, and the row of a row's code is that row.
+use mathlib.Core.Path.{_≡_, refl, sym, _∙_}
 use mathlib.Core.Bool.{Bool, true, false}
 use mathlib.Core.List.{List, [], _∷_}
 use mathlib.Core.Logic.{_⊎_, inl, inr, ⊎-elim}
 use Prim.Native.Nat.{ℕ, suc, _+_, _<_, _≤_, zero-le, suc-le-suc}
-use native.Mathlib.Nat.{zero-add, add-zero, add-suc, suc-add, le-of-lt}
+use native.Mathlib.Nat.{zero-add, add-zero, add-suc, suc-add}
 use native.Mathlib.Omega.{arith}
 use lib.Dec.{T, eqb}
 use lib.ListN.{length, getD}
@@ -22,15 +22,11 @@ computed = tt
 pub row-of-code-or-none : (r : ℕ) → r ≤ rowCount → rowOfCode (code r) ≡ r
 row-of-code-or-none r h = below-equal (suc rowCount) (λ r. rowOfCode (code r)) (λ r. r) computed r (suc-le-suc h)
 
-pub row-of-code : (r : ℕ) → r < rowCount → rowOfCode (code r) ≡ r
-row-of-code r h = row-of-code-or-none r (le-of-lt h)
-
-pub codes-distinct : (j k : ℕ) → j < rowCount → k < rowCount → code j ≡ code k → j ≡ k
-codes-distinct j k hj hk e = sym (row-of-code j hj) ∙ ap rowOfCode e ∙ row-of-code k hk
-
 -- what a search from row i on finds: no row, or the k-th of the rows searched, which has the code
 abbrev Found : ℕ → ℕ → List Listed → Type 0
-Found c i ls = (rowFrom c i ls ≡ none) ⊎ ((k : ℕ) × (k < length ls) × (rowFrom c i ls ≡ i + k) × (textNumber (getD ls k noRow .code) ≡ c))
+Found c i ls =
+    (rowFrom c i ls ≡ none)
+    ⊎ ((k : ℕ) × (k < length ls) × (rowFrom c i ls ≡ i + k) × (textNumber (getD ls k noRow .code) ≡ c))
 
 found : (c i : ℕ) (ls : List Listed) → Found c i ls
 unfolding rowFrom

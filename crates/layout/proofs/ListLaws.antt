@@ -17,7 +17,8 @@ module _ {A : Type 0} where
   with-default-at (x ∷ xs) d zero = refl
   with-default-at (x ∷ xs) d (suc k) = with-default-at xs d k
 
-pub map-at : {A B : Type 0} (f : A → B) (xs : List A) (k : ℕ) (d : A) (z : B) → k < length xs → getD (map f xs) k z ≡ f (getD xs k d)
+pub map-at : {A B : Type 0} (f : A → B) (xs : List A) (k : ℕ) (d : A) (z : B) → k < length xs
+    → getD (map f xs) k z ≡ f (getD xs k d)
 map-at f [] k d z h = absurd (not-suc-le-zero h)
 map-at f (x ∷ xs) zero d z h = refl
 map-at f (x ∷ xs) (suc k) d z h = map-at f xs k d z (le-of-suc-le-suc h)
@@ -54,4 +55,5 @@ module _ {A : Type 0} where
       let later = joinedParts n (λ q. part (suc q)) in
       let after : i ≡ length (part 0) + j = omega arith in
       ap (λ (m : ℕ). getD (part 0 ++ later) m d) after ∙ getD-append-add (part 0) later j d
-      ∙ joined-at n (λ q. part (suc q)) (λ q. start (suc q)) (λ q h. next (suc q) (suc-le-suc h)) r k j d (le-of-suc-le-suc l) lk (omega arith)
+      ∙ joined-at n (λ q. part (suc q)) (λ q. start (suc q)) (λ q h. next (suc q) (suc-le-suc h)) r k j d
+      (le-of-suc-le-suc l) lk (omega arith)

@@ -51,7 +51,8 @@ unfolding packedKinds kindNumber
 kind-entry r n h one le = List·getD-map kindNumber flatKinds (start r + (n - 1)) free ∙ ap kindNumber (flat-kind r n h one le)
 
 -- a field's kind stands within the table
-pub kind-within : (starts : List ℕ) (r n : ℕ) → starts ≡ startColumn → r < rowCount → 1 ≤ n → n ≤ fields r → getD starts r 0 + (n - 1) < fieldCount
+pub kind-within : (starts : List ℕ) (r n : ℕ) → starts ≡ startColumn → r < rowCount → 1 ≤ n → n ≤ fields r
+    → getD starts r 0 + (n - 1) < fieldCount
 kind-within starts r n e h one le =
     let begins = start-entry r (le-of-lt h) in
     let ends = fields-within r h in

@@ -3,11 +3,12 @@ use mathlib.Core.Path.{_≡_}
 use mathlib.Core.Bool.{Bool, true, false, _&&_}
 use Prim.Native.Nat.{ℕ, suc, _<_, _≤_}
 use native.Mathlib.Nat.{le-refl}
-use lib.Dec.{T, eqb, leb, ltb, eqb→eq, ltb→lt}
+use lib.Dec.{T, eqb, leb, eqb→eq}
 use borrow.Author.Tests.{le-leb, lt-leb}
 use Rattle.layout.specs.Pick.{pick}
 use Rattle.layout.specs.Text.{bytes, codeNumber, textNumber}
-use Rattle.layout.specs.Rows.{rowTable, rowCount, none, listed, code, level, block, placeOf, blockLetters, lastAmong, parent}
+use Rattle.layout.specs.Rows.{rowTable, rowCount, none, listed, code, level, block}
+use Rattle.layout.specs.Rows.{placeOf, blockLetters, lastAmong, parent}
 use Rattle.layout.proofs.Below.{below, those, those-at}
 use Rattle.layout.proofs.RowLaws.{last-among-le}
 
@@ -20,12 +21,9 @@ sameBlock r = eqb (block (parent r)) (block r)
 abbrev levelLess : ℕ → Bool
 levelLess r = eqb (suc (level (parent r))) (level r)
 
-abbrev before : ℕ → Bool
-before r = ltb (parent r) r
-
-computed : T (those rowCount hasParent sameBlock) × T (those rowCount hasParent levelLess) × T (those rowCount hasParent before)
+computed : T (those rowCount hasParent sameBlock) × T (those rowCount hasParent levelLess)
 unfolding those below parent lastAmong block placeOf blockLetters level code listed rowTable textNumber codeNumber bytes
-computed = (tt, tt, tt)
+computed = (tt, tt)
 
 module _ (r : ℕ) (h : r < rowCount) (deep : 2 ≤ level r) where
   has : hasParent r ≡ true
@@ -36,9 +34,6 @@ module _ (r : ℕ) (h : r < rowCount) (deep : 2 ≤ level r) where
 
   pub parent-level : suc (level (parent r)) ≡ level r
   parent-level = eqb→eq (suc (level (parent r))) (level r) (those-at rowCount hasParent levelLess (computed .1) r h has)
-
-  pub parent-before : parent r < r
-  parent-before = ltb→lt (parent r) r (those-at rowCount hasParent before (computed .2) r h has)
 
 pub parent-le : (r : ℕ) → r ≤ rowCount → parent r ≤ rowCount
 unfolding parent

@@ -1,15 +1,17 @@
 -- Rules of the frame: which rows are openings, closings and data, and what is known of the named rows and of "no row".
 use mathlib.Core.Path.{_≡_, refl, sym, _∙_, ap}
 use mathlib.Core.Bool.{Bool, true, false, not, _&&_, _||_}
-use Prim.Native.Nat.{ℕ, suc, _<_, _≤_, _%_}
+use Prim.Native.Nat.{ℕ, _<_, _≤_, _%_}
 use native.Mathlib.Decide.{decLt}
 use native.Mathlib.Omega.{arith}
-use lib.Dec.{T, eqb, leb, ltb, eqb→eq, leb→le}
+use lib.Dec.{T, eqb, leb, eqb→eq}
+use lib.Ieee.Bits.{is-true}
 use borrow.Author.Tests.{eqb-true, eq-eqb, ne-eqb, le-leb, not-true}
 use Rattle.layout.specs.Text.{bytes, codeNumber, textNumber}
-use Rattle.layout.specs.Rows.{rowTable, rowCount, none, listed, code, fields, level, block, placeOf, blockLetters, isOpening, isClosing, lastAmong, parent, opening, row0000, row9990, row9999}
+use Rattle.layout.specs.Rows.{rowTable, rowCount, none, listed, code, fields, level, block, placeOf, blockLetters}
+use Rattle.layout.specs.Rows.{isOpening, isClosing, lastAmong, parent, opening, row0000, row9990, row9999}
 use Rattle.layout.specs.Kinds.{codeField, opens, count, sheets, sheetOr, kindsOf, kind}
-use Rattle.layout.proofs.Below.{below, below-most, those, those-at, is-true}
+use Rattle.layout.proofs.Below.{below, below-most, those, those-at}
 use Rattle.layout.proofs.RowLaws.{level-none}
 use Rattle.layout.proofs.BlockLaws.{shallow-roles, opening-before}
 
@@ -22,7 +24,8 @@ level-row r h = go (decLt r rowCount)
     go (no l) = absurd (let e = level-none r (omega arith) in omega arith)
 
 -- what is no row of the frame is a data row
-pub data-level : (r : ℕ) → r < rowCount → (r ≡ row0000 → ⊥) → isOpening r ≡ false → isClosing r ≡ false → (r ≡ row9999 → ⊥) → 2 ≤ level r
+pub data-level : (r : ℕ) → r < rowCount → (r ≡ row0000 → ⊥) → isOpening r ≡ false → isClosing r ≡ false → (r ≡ row9999 → ⊥)
+    → 2 ≤ level r
 data-level r h a o c z = go (decLt (level r) 2)
   where
     go : Dec (level r < 2) → 2 ≤ level r
@@ -37,11 +40,16 @@ isDataRow r = leb 2 (level r)
 abbrev isLevelOne : ℕ → Bool
 isLevelOne r = eqb (level r) 1
 
+abbrev isEnd : ℕ → Bool
+isEnd r = isClosing r || isOpening r
+
 abbrev onlyOpening : ℕ → Bool
 onlyOpening r = eqb (lastAmong (λ k. eqb (block k) (block r) && isOpening k) rowCount) r
 
-computed : T (those rowCount isDataRow (λ r. not (isClosing (parent r)))) × T (those rowCount isLevelOne (λ r. isClosing r || isOpening r)) × T (those rowCount isOpening onlyOpening)
-unfolding those below parent lastAmong block placeOf blockLetters level isOpening isClosing code listed rowTable textNumber codeNumber bytes
+computed : T (those rowCount isDataRow (λ r. not (isClosing (parent r)))) × T (those rowCount isLevelOne isEnd)
+    × T (those rowCount isOpening onlyOpening)
+unfolding those below parent lastAmong block placeOf blockLetters level
+    isOpening isClosing code listed rowTable textNumber codeNumber bytes
 computed = (tt, tt, tt)
 
 -- no line hangs under a closing
@@ -52,7 +60,7 @@ parent-closing r h l =
 
 pub level-one : (r : ℕ) → r < rowCount → level r ≡ 1 → isClosing r ≡ false → isOpening r ≡ true
 level-one r h l c =
-    rw c at (is-true (isClosing r || isOpening r) (those-at rowCount isLevelOne (λ r. isClosing r || isOpening r) (computed .1) r h (eq-eqb (level r) 1 l)))
+    rw c at (is-true (isEnd r) (those-at rowCount isLevelOne isEnd (computed .1) r h (eq-eqb (level r) 1 l)))
 
 -- a block has one opening
 opening-alone : (r : ℕ) → r < rowCount → isOpening r ≡ true → lastAmong (λ k. eqb (block k) (block r) && isOpening k) rowCount ≡ r

@@ -24,7 +24,7 @@ own : T (below rowCount (λ r. eqb (rowAt (slotOf (code r))) r))
 unfolding below slotTable slotsOf code listed rowTable textNumber codeNumber bytes
 own = tt
 
-pub slot-row : (r : ℕ) → r < rowCount → rowAt (slotOf (code r)) ≡ r
+slot-row : (r : ℕ) → r < rowCount → rowAt (slotOf (code r)) ≡ r
 slot-row = below-equal rowCount (λ r. rowAt (slotOf (code r))) (λ r. r) own
 
 most : T (below slotCount (λ s. leb (rowAt s) rowCount))

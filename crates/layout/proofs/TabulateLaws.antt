@@ -1,6 +1,6 @@
 -- The entries of a list that is given by its entries.
 use mathlib.Core.Path.{_≡_, refl, sym, ap, ap₂}
-use mathlib.Core.List.{List, [], _∷_}
+use mathlib.Core.List.{_∷_}
 use Prim.Native.Nat.{ℕ, zero, suc, _<_, _≤_}
 use native.Mathlib.Omega.{arith}
 use lib.ListN.{length, getD, set, List·getD-eq-default}
@@ -21,13 +21,14 @@ module _ {A : Type 0} where
   pub tabulate-past : (n : ℕ) (f : ℕ → A) (k : ℕ) (d : A) → n ≤ k → getD (tabulate n f) k d ≡ d
   tabulate-past n f k d h = List·getD-eq-default (tabulate n f) d (omega (arith, tabulate-length n f))
 
-  pub tabulate-same : (n : ℕ) (f g : ℕ → A) → ((k : ℕ) → f k ≡ g k) → tabulate n f ≡ tabulate n g
+  tabulate-same : (n : ℕ) (f g : ℕ → A) → ((k : ℕ) → f k ≡ g k) → tabulate n f ≡ tabulate n g
   unfolding tabulate
   tabulate-same zero f g e = refl
   tabulate-same (suc n) f g e = ap₂ _∷_ (e 0) (tabulate-same n (λ k. f (suc k)) (λ k. g (suc k)) (λ k. e (suc k)))
 
   -- g is v at r and f elsewhere
-  pub tabulate-set : (n : ℕ) (f g : ℕ → A) (r : ℕ) (v : A) → r < n → g r ≡ v → ((k : ℕ) → (r ≡ k → ⊥) → g k ≡ f k) → set (tabulate n f) r v ≡ tabulate n g
+  pub tabulate-set : (n : ℕ) (f g : ℕ → A) (r : ℕ) (v : A) → r < n → g r ≡ v → ((k : ℕ) → (r ≡ k → ⊥) → g k ≡ f k)
+      → set (tabulate n f) r v ≡ tabulate n g
   unfolding tabulate
   tabulate-set zero f g r v h e o = absurd (omega arith)
   tabulate-set (suc n) f g zero v h e o =

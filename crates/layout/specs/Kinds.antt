@@ -46,11 +46,14 @@ sheet t ks = record { of = t; kinds = ks }
 
 unfoldable pub sheets : List Sheet
 sheets =
-    sheet "0000" (codeField ∷ lfpd ∷ date ∷ date ∷ C- ∷ N 14 ∷ C 2 ∷ C- ∷ N 7 ∷ C- ∷ C 0 ∷ C 9 ∷ N 4 ∷ N 1 ∷ N 2 ∷ brasil ∷ C- ∷ N 11 ∷ N 11 ∷ C 0 ∷ []) ∷
+    sheet "0000" (codeField ∷ lfpd ∷ date ∷ date ∷ C- ∷ N 14 ∷ C 2 ∷ C- ∷ N 7 ∷ C- ∷ C 0 ∷
+    C 9 ∷ N 4 ∷ N 1 ∷ N 2 ∷ brasil ∷ C- ∷ N 11 ∷ N 11 ∷ C 0 ∷ []) ∷
     sheet "0005" (codeField ∷ C- ∷ N 3 ∷ N 11 ∷ N 8 ∷ C- ∷ C- ∷ C- ∷ C- ∷ N 8 ∷ N- ∷ C- ∷ C- ∷ C- ∷ []) ∷
     sheet "0025" (codeField ∷ C 5 ∷ C 5 ∷ []) ∷
-    sheet "0030" (codeField ∷ N 1 ∷ N 1 ∷ N 1 ∷ N 1 ∷ N 1 ∷ N 1 ∷ N 1 ∷ N 1 ∷ N 1 ∷ N 1 ∷ N 1 ∷ N 1 ∷ N 1 ∷ N 1 ∷ N 1 ∷ N 1 ∷ N 1 ∷ []) ∷
-    sheet "0100" (codeField ∷ C- ∷ N 3 ∷ N 14 ∷ N 11 ∷ C 10 ∷ N 8 ∷ C- ∷ C- ∷ C- ∷ C- ∷ C 2 ∷ N 7 ∷ N 8 ∷ N- ∷ C- ∷ C- ∷ C- ∷ []) ∷
+    sheet "0030" (codeField ∷ N 1 ∷ N 1 ∷ N 1 ∷ N 1 ∷ N 1 ∷ N 1 ∷ N 1 ∷ N 1 ∷ N 1 ∷
+    N 1 ∷ N 1 ∷ N 1 ∷ N 1 ∷ N 1 ∷ N 1 ∷ N 1 ∷ N 1 ∷ []) ∷
+    sheet "0100" (codeField ∷ C- ∷ N 3 ∷ N 14 ∷ N 11 ∷ C 10 ∷ N 8 ∷ C- ∷ C- ∷ C- ∷
+    C- ∷ C 2 ∷ N 7 ∷ N 8 ∷ N- ∷ C- ∷ C- ∷ C- ∷ []) ∷
     sheet "0150" (codeField ∷ C- ∷ C- ∷ N 5 ∷ N 14 ∷ N 11 ∷ C 0 ∷ C 2 ∷ C- ∷ C- ∷ N 7 ∷ C- ∷ C 9 ∷ []) ∷
     sheet "0175" (codeField ∷ N 8 ∷ C- ∷ C- ∷ C- ∷ C- ∷ N 8 ∷ N- ∷ C- ∷ C- ∷ []) ∷
     sheet "0200" (codeField ∷ C- ∷ C- ∷ N 2 ∷ N 4 ∷ []) ∷

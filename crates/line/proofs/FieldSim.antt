@@ -45,7 +45,7 @@ found seen = ruled (formOf (kind (rowAtHand seen) (bars seen))) (due (rowAtHand 
 
 module _ (seen : List ℕ) (late : 2 ≤ bars seen) (s : Sound seen) where
   -- 13: what a count must state
-  pub due-is : formOf (kind (rowAtHand seen) (bars seen)) .isCount ≡ true → dueOf (hotOf seen) ≡ due (rowAtHand seen) (rows seen)
+  due-is : formOf (kind (rowAtHand seen) (bars seen)) .isCount ≡ true → dueOf (hotOf seen) ≡ due (rowAtHand seen) (rows seen)
   unfolding dueOf
   due-is e =
       let r = rowAtHand seen in
@@ -54,15 +54,17 @@ module _ (seen : List ℕ) (late : 2 ≤ bars seen) (s : Sound seen) where
       split (eqb r row9999)
       (λ t. rw t (rw (eqb-true r row9999 t, due-9999 (rows seen), rows-length seen, add-one)))
       (λ t. let c = or-second (isClosing r) (eqb r row9999) counts t in
-      rw t (rw (due-since (rows seen) (s .stood) r (known .0) c (sym (stand-closing (rows seen) r (known .0) c) ∙ known .1), add-one)))
+      let ends = sym (stand-closing (rows seen) r (known .0) c) ∙ known .1 in
+      rw t (rw (due-since (rows seen) (s .stood) r (known .0) c ends, add-one)))
 
-  pub due-small : dueOf (hotOf seen) < cap
+  due-small : dueOf (hotOf seen) < cap
   unfolding dueOf
   due-small =
       let r = rowAtHand seen in
       let n = length (lines seen) in
       let nine = pick-le (eqb (block r) (block row9999)) 1 0 1 (omega arith) (omega arith) in
-      let in-block : since (rows seen) + 1 + pick (eqb (block r) (block row9999)) 1 0 ≤ n + 2 = omega (arith, since-le (rows seen), rows-length seen) in
+      let few : since (rows seen) ≤ n = omega (arith, since-le (rows seen), rows-length seen) in
+      let in-block : since (rows seen) + 1 + pick (eqb (block r) (block row9999)) 1 0 ≤ n + 2 = omega arith in
       let all = pick-le (eqb r row9999) (n + 1) _ (n + 2) (omega arith) in-block in
       omega (arith, bars-lines seen, s .short)
 
@@ -78,7 +80,7 @@ opening-told seen z two o =
     let k = opening-kind (rowAtHand seen) o in
     rw (two, k) (opens-zero (due (rowAtHand seen) (rows seen)) (word seen) (rw (two, k) at z))
 
-abbrev pub faultFor : ℕ → ℕ → Fault
+abbrev faultFor : ℕ → ℕ → Fault
 faultFor n f = pick (eqb n 0) clear (breaks n f)
 
 -- the four rules of a field's bar, as one number

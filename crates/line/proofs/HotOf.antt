@@ -20,7 +20,8 @@ use Rattle.rules.specs.Rules.{rowToBe}
 use Rattle.rules.proofs.TestLaws.{split}
 use Rattle.layout.proofs.RoleLaws.{fields-none}
 use Rattle.layout.proofs.KindLaws.{opens-kind}
-use Rattle.rules.proofs.ByteLaws.{lines-on, rows-on, bars-on, word-on, field-on, row-on, lines-bar, rows-bar, bars-bar, word-bar, field-bar, row-code, row-later, lines-lf, rows-lf, bars-lf, word-lf, row-lf, row-early}
+use Rattle.rules.proofs.ByteLaws.{lines-on, rows-on, bars-on, word-on, field-on, row-on, lines-bar, rows-bar, bars-bar, word-bar}
+use Rattle.rules.proofs.ByteLaws.{field-bar, row-code, row-later, lines-lf, rows-lf, bars-lf, word-lf, row-lf, row-early}
 use Rattle.rules.proofs.BlockLaws.{since}
 use Rattle.field.specs.Streaming.{fieldAfter}
 use Rattle.line.specs.Machine.{data0, data1, grownOf, movedOf, endedOf, sinceOf, saysOf}
@@ -82,42 +83,59 @@ module _ (seen : List ℕ) (b : ℕ) (plain : eqb b LF ≡ false) (inner : eqb b
   pub hot-grown : hotOf (b ∷ seen) ≡ grownOf (hotOf seen) b
   unfolding fieldAfter
   hot-grown =
-      rw (says-on, lines-on seen b plain, rows-on seen b plain, bars-on seen b plain inner, word-on seen b plain inner, row-on seen b plain inner, ← add-one (length seen))
+      rw (
+        says-on,
+        lines-on seen b plain,
+        rows-on seen b plain,
+        bars-on seen b plain inner,
+        word-on seen b plain inner,
+        row-on seen b plain inner,
+        ← add-one (length seen),
+      )
 
 -- A bar.
 module _ (seen : List ℕ) where
   -- at the start of a line
-  pub hot-first : bars seen ≡ 0 → hotOf (bar ∷ seen) ≡ movedOf (hotOf seen) (rowAtHand seen) (fields (rowAtHand seen)) 1 (says seen)
+  pub hot-first : bars seen ≡ 0
+      → hotOf (bar ∷ seen) ≡ movedOf (hotOf seen) (rowAtHand seen) (fields (rowAtHand seen)) 1 (says seen)
   unfolding fieldAfter
   hot-first e =
-      rw (says-first, lines-bar seen, rows-bar seen, bars-bar seen, word-bar seen, row-first, kind-first, ← add-one (length seen), ← add-one (bars seen))
+      rw (says-first, lines-bar seen, rows-bar seen, bars-bar seen, word-bar seen, row-first, kind-first)
+      (rw (← add-one (length seen), ← add-one (bars seen)))
     where
       says-first : says (bar ∷ seen) ≡ says seen
-      says-first = says-early (bar ∷ seen) (omega (arith, bars-bar seen)) ∙ ap lastSays (lines-bar seen) ∙ sym (says-early seen (omega arith))
+      says-first =
+          says-early (bar ∷ seen) (omega (arith, bars-bar seen)) ∙ ap lastSays (lines-bar seen)
+          ∙ sym (says-early seen (omega arith))
 
       row-first : rowAtHand (bar ∷ seen) ≡ rowAtHand seen
       row-first = row-early (bar ∷ seen) (omega (arith, bars-bar seen)) ∙ sym (row-early seen (omega arith))
 
       kind-first : kindNumber (kind (rowAtHand seen) (suc (bars seen))) ≡ 1
-      kind-first = ap (λ r. kindNumber (kind r (suc (bars seen)))) (row-early seen (omega arith)) ∙ early-kind (suc (bars seen)) (omega arith)
+      kind-first =
+          ap (λ r. kindNumber (kind r (suc (bars seen)))) (row-early seen (omega arith))
+          ∙ early-kind (suc (bars seen)) (omega arith)
 
   -- after field 1: the line has its row
   pub hot-coded : bars seen ≡ 1
       → hotOf (bar ∷ seen) ≡ movedOf (hotOf seen) (rowToBe seen) (fields (rowToBe seen)) (kindNumber (kind (rowToBe seen) 2)) 0
   unfolding fieldAfter
   hot-coded e =
-      rw (says-two (bar ∷ seen) two, lines-bar seen, rows-bar seen, two, word-bar seen, row-code seen e, ← add-one (length seen), e)
+      rw (says-two (bar ∷ seen) two, lines-bar seen, rows-bar seen, two, word-bar seen, row-code seen e)
+      (rw (← add-one (length seen), e))
     where
       two : bars (bar ∷ seen) ≡ 2
       two = bars-bar seen ∙ ap suc e
 
   -- after field 2: what the line says is known
   hand-says-bar : lineSays (lineAtHand (bar ∷ seen))
-      ≡ pick (isOpening (rowAtHand (bar ∷ seen))) (pick (isText "0" (pick (eqb (bars seen) 2) (word seen) (field 2 (lineAtHand seen)))) data0 data1) 0
+      ≡ pick (isOpening (rowAtHand (bar ∷ seen)))
+      (pick (isText "0" (pick (eqb (bars seen) 2) (word seen) (field 2 (lineAtHand seen)))) data0 data1) 0
   unfolding lineSays rowAtHand
   hand-says-bar = rw (field-bar seen 2)
 
-  hand-says : pick (isOpening (rowAtHand seen)) (pick (isText "0" (field 2 (lineAtHand seen))) data0 data1) 0 ≡ lineSays (lineAtHand seen)
+  hand-says : pick (isOpening (rowAtHand seen)) (pick (isText "0" (field 2 (lineAtHand seen))) data0 data1) 0
+      ≡ lineSays (lineAtHand seen)
   unfolding lineSays rowAtHand
   hand-says = refl
 
@@ -133,18 +151,23 @@ module _ (seen : List ℕ) where
         ∙ rw (row-later seen late, opens-kind (rowAtHand seen) (bars seen) known) (go (ℕ-discrete (bars seen) 2))
       where
         go : Dec (bars seen ≡ 2)
-            → pick (isOpening (rowAtHand seen)) (pick (isText "0" (pick (eqb (bars seen) 2) (word seen) (field 2 (lineAtHand seen)))) data0 data1) 0
-            ≡ pick (eqb (bars seen) 2 && isOpening (rowAtHand seen)) (pick (eqb (hotOf seen .field .value) 0) data0 data1) (says seen)
+            → pick (isOpening (rowAtHand seen))
+            (pick (isText "0" (pick (eqb (bars seen) 2) (word seen) (field 2 (lineAtHand seen)))) data0 data1) 0
+            ≡ pick (eqb (bars seen) 2 && isOpening (rowAtHand seen))
+            (pick (eqb (hotOf seen .field .value) 0) data0 data1) (says seen)
         go (yes e) =
             rw (eq-eqb (bars seen) 2 e, says-two seen e)
             (split (isOpening (rowAtHand seen)) (λ o. rw (o, told e o)) (λ o. rw o))
         go (no e) = rw (ne-eqb (bars seen) 2 e) (hand-says ∙ sym (says-late seen (omega arith)))
 
     pub hot-moved : OpeningTold
-        → hotOf (bar ∷ seen) ≡ movedOf (hotOf seen) (rowAtHand seen) (fields (rowAtHand seen)) (kindNumber (kind (rowAtHand seen) (bars seen + 1))) (saysOf (hotOf seen))
+        → hotOf (bar ∷ seen)
+        ≡ movedOf (hotOf seen) (rowAtHand seen) (fields (rowAtHand seen)) (kindNumber (kind (rowAtHand seen) (bars seen + 1)))
+        (saysOf (hotOf seen))
     unfolding fieldAfter
     hot-moved told =
-        rw (says-bar told, lines-bar seen, rows-bar seen, bars-bar seen, word-bar seen, row-later seen late, ← add-one (length seen), ← add-one (bars seen))
+        rw (says-bar told, lines-bar seen, rows-bar seen, bars-bar seen, word-bar seen, row-later seen late)
+        (rw (← add-one (length seen), ← add-one (bars seen)))
 
 -- LF, which ends a line of two fields or more.
 module _ (seen : List ℕ) where
@@ -163,4 +186,5 @@ module _ (seen : List ℕ) where
   pub hot-ended : 3 ≤ bars seen → hotOf (LF ∷ seen) ≡ endedOf (hotOf seen)
   unfolding fieldAfter
   hot-ended h =
-      rw (says-lf h, since-lf, last-lf, lines-lf seen, bars-lf seen, word-lf seen, row-lf seen, fields-none, early-kind 0 (omega arith), ← add-one (length seen), ← add-one (length (lines seen)))
+      rw (says-lf h, since-lf, last-lf, lines-lf seen, bars-lf seen, word-lf seen, row-lf seen, fields-none)
+      (rw (early-kind 0 (omega arith), ← add-one (length seen), ← add-one (length (lines seen))))

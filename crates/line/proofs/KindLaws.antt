@@ -4,34 +4,24 @@ use mathlib.Core.Bool.{Bool, true, false, not, _&&_, _||_}
 use mathlib.Core.List.{List, [], _∷_}
 use Prim.Native.Nat.{ℕ, zero, suc, _-_, _≤_}
 use native.Mathlib.Omega.{arith}
-use native.Mathlib.Decide.{ℕ-discrete}
+use native.Mathlib.Nat.{le-refl}
 use lib.Dec.{eqb}
 use lib.ListN.{getD, replicate}
 use borrow.Author.Tests.{not-true}
-use Rattle.layout.specs.Text.{bytes, codeNumber, textNumber}
-use Rattle.layout.specs.Rows.{none, row9999, rowTable, listed, code, fields, isOpening, isClosing}
+use Rattle.layout.specs.Text.{textNumber}
+use Rattle.layout.specs.Rows.{rowCount, none, row9999, code, fields, isOpening, isClosing}
 use Rattle.layout.specs.Kinds.{Kind, Sheet, codeField, free, opens, sheets, sheetOr, kindsOf, kind}
 use Rattle.layout.specs.Packed.{kindNumber}
 use Rattle.rules.specs.Fields.{formOf}
 use Rattle.rules.proofs.TestLaws.{split, both, and-left, and-right}
-use Rattle.layout.proofs.RoleLaws.{none-kind}
-
-pub none-start-kind : kind none 0 ≡ codeField
-unfolding kind kindsOf isOpening isClosing code fields listed rowTable bytes codeNumber textNumber sheets sheetOr
-none-start-kind = refl
-
-pub code-number : kindNumber codeField ≡ 1
-unfolding kindNumber
-code-number = refl
+use Rattle.layout.proofs.KindLaws.{kinds-none}
 
 -- until its code has come a line has field 1 alone, the code
 pub early-kind : (n : ℕ) → n ≤ 1 → kindNumber (kind none n) ≡ 1
-early-kind n h = go (ℕ-discrete n 0) (ℕ-discrete n 1)
-  where
-    go : Dec (n ≡ 0) → Dec (n ≡ 1) → kindNumber (kind none n) ≡ 1
-    go (yes e) d = rw (e, none-start-kind) code-number
-    go (no e) (yes d) = rw (d, none-kind) code-number
-    go (no e) (no d) = absurd (omega arith)
+unfolding kind kindNumber
+early-kind zero h = rw (kinds-none none (le-refl rowCount))
+early-kind (suc zero) h = rw (kinds-none none (le-refl rowCount))
+early-kind (suc (suc n)) h = absurd (omega arith)
 
 -- Counts stand in closings and in 9999 alone: no other line's kinds have one.
 unfoldable countless : List Kind → Bool
@@ -57,7 +47,8 @@ countless-untyped : (n : ℕ) → countless (codeField ∷ replicate n free) ≡
 unfolding countless formOf
 countless-untyped n = countless-free n
 
-countless-or : (ks : List Kind) (c : ℕ) (ss : List Sheet) → countless ks ≡ true → allCountless ss ≡ true → countless (sheetOr ks c ss) ≡ true
+countless-or : (ks : List Kind) (c : ℕ) (ss : List Sheet) → countless ks ≡ true → allCountless ss ≡ true
+    → countless (sheetOr ks c ss) ≡ true
 unfolding allCountless sheetOr
 countless-or ks c [] e a = e
 countless-or ks c (s ∷ ss) e a =

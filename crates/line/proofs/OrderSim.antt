@@ -17,7 +17,8 @@ use Rattle.rules.proofs.Stood.{Stood}
 use Rattle.rules.proofs.AllRows.{AllRows}
 use Rattle.layout.proofs.RoleLaws.{data-level}
 use Rattle.rules.proofs.OpenLaws.{hangs-climb, ends-last}
-use Rattle.rules.proofs.OccurrenceLaws.{stamps, occurrences, stampAt, stamped, occurred, stamps-at, occurrences-at, under-stamps, parent-other}
+use Rattle.rules.proofs.OccurrenceLaws.{stamps, occurrences, stampAt, stamped, occurred, stamps-at}
+use Rattle.rules.proofs.OccurrenceLaws.{occurrences-at, under-stamps, parent-other}
 use Rattle.rules.proofs.StatedLaws.{Opened}
 use Rattle.line.specs.Machine.{data0, data1, startsOf, endsOf, hangsOf, standsOf, entryOf, usedOf, roomOf, misplacedOf}
 use Rattle.line.proofs.HotOf.{says, lineSays, lastSays, says-early}
@@ -34,7 +35,8 @@ stands-is before s r row =
     (λ closes. rw closes
     (split (eqb r row9999) (λ t. rw t)
     (λ final. rw final
-    (sym (hangs-climb before s r row (data-level r row (eqb-false r row0000 first) opens closes (eqb-false r row9999 final)))))))))))
+    (sym (hangs-climb before s r row
+    (data-level r row (eqb-false r row0000 first) opens closes (eqb-false r row9999 final)))))))))))
 
 -- 5: no text is both 0 and 1
 one-text : (w : List ℕ) → isText "0" w ≡ true → isText "1" w ≡ false
@@ -55,9 +57,12 @@ line-says : (line : List ℕ) (before : List (List ℕ)) → Opened (line ∷ be
     → (eqb (lineSays line) data0 ≡ openedBy "0" (line ∷ before)) × (eqb (lineSays line) data1 ≡ openedBy "1" (line ∷ before))
 unfolding lineSays openedBy
 line-says line before o =
-    split (isOpening (rowOf line)) (λ t. let q = says-text (field 2 line) (o .0 t) in (rw t (q .0), rw t (q .1))) (λ t. (rw t, rw t))
+    split (isOpening (rowOf line))
+    (λ t. let q = says-text (field 2 line) (o .0 t) in (rw t (q .0), rw t (q .1)))
+    (λ t. (rw t, rw t))
 
-last-says : (ls : List (List ℕ)) → Opened ls → (eqb (lastSays ls) data0 ≡ openedBy "0" ls) × (eqb (lastSays ls) data1 ≡ openedBy "1" ls)
+last-says : (ls : List (List ℕ)) → Opened ls
+    → (eqb (lastSays ls) data0 ≡ openedBy "0" ls) × (eqb (lastSays ls) data1 ≡ openedBy "1" ls)
 unfolding lastSays
 last-says [] o = unfold openedBy in (refl, refl)
 last-says (line ∷ before) o = line-says line before o

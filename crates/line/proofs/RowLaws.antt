@@ -1,29 +1,25 @@
 -- Rules of a line's row where it may be "no row": its fields, and the row of the code at hand.
-use mathlib.Core.Path.{_≡_, refl}
+use mathlib.Core.Path.{_≡_}
 use mathlib.Core.Bool.{Bool, true, false}
-use Prim.Native.Nat.{ℕ, _<_, _≤_}
+use mathlib.Core.List.{[], _∷_}
+use Prim.Native.Nat.{ℕ, _-_, _<_, _≤_}
 use native.Mathlib.Nat.{le-refl}
 use native.Mathlib.Decide.{decLt}
 use native.Mathlib.Omega.{arith}
 use lib.Dec.{eqb}
-use lib.ListN.{length, List·getD-eq-default}
+use lib.ListN.{List·getD-eq-default}
 use Rattle.layout.specs.Pick.{pick}
-use Rattle.layout.specs.Text.{bytes, codeNumber, textNumber}
-use Rattle.layout.specs.Rows.{rowTable, rowCount, none, listed, code, fields, isOpening, isClosing, rowOfCode}
-use Rattle.layout.specs.Kinds.{free, sheets, sheetOr, kindsOf, kind}
-use Rattle.layout.proofs.KindLaws.{kind-past}
+use Rattle.layout.specs.Rows.{rowCount, none, fields, rowOfCode}
+use Rattle.layout.specs.Kinds.{codeField, free, kind}
+use Rattle.layout.proofs.KindLaws.{kind-past, kinds-none}
 use Rattle.layout.proofs.RoleLaws.{fields-none}
 use Rattle.layout.proofs.CodeLaws.{row-of-code-le}
 use Rattle.line.specs.declared.hot.Hot.{Hot}
 use Rattle.line.specs.Machine.{wordRow}
 
-kinds-none : length (kindsOf none) ≡ 1
-unfolding kindsOf sheetOr sheets isOpening isClosing fields code listed rowTable textNumber codeNumber bytes
-kinds-none = refl
-
 none-past : (n : ℕ) → 1 < n → kind none n ≡ free
 unfolding kind
-none-past n h = let one = kinds-none in List·getD-eq-default (kindsOf none) free (omega arith)
+none-past n h = rw (kinds-none none (le-refl rowCount)) (List·getD-eq-default (codeField ∷ []) free {n = n - 1} (omega arith))
 
 -- past the fields of a row, and of no row, none is to come
 pub past-free : (r n : ℕ) → r ≤ rowCount → fields r < n → kind r n ≡ free

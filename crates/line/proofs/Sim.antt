@@ -9,23 +9,26 @@ use lib.ListN.{length}
 use borrow.Author.Tests.{eq-eqb, ne-eqb, lt-ltb, le-ltb, eqb-true, ltb-false}
 use Rattle.layout.specs.Pick.{pick}
 use Rattle.layout.specs.Rows.{none, rowCount, fields, isClosing}
-use Rattle.layout.specs.Kinds.{kind}
 use Rattle.rules.specs.Bytes.{bar, CR, LF, cut, lines, rows, rowAtHand, rowOfWord, bars, word, empty, isEndByte, lineAtHand}
 use Rattle.rules.specs.Order.{canStand, hasRoom, isData}
-use Rattle.rules.specs.Rules.{Fault, clear, breaks, rules, firstBroken, faultBy, fault, full, finished, inField, rowToBe, openedBy, byteLimit}
+use Rattle.rules.specs.Rules.{Fault, clear, breaks, rules, firstBroken, faultBy, fault}
+use Rattle.rules.specs.Rules.{full, finished, inField, rowToBe, openedBy, byteLimit}
 use Rattle.rules.proofs.TestLaws.{split, both}
 use Rattle.layout.proofs.RoleLaws.{none-kind}
 use Rattle.layout.proofs.RowLaws.{fields-two}
 use Rattle.rules.proofs.AllRows.{stood-rows}
 use Rattle.rules.proofs.ByteLaws.{lines-on, bars-lf, row-early}
-use Rattle.rules.proofs.FaultLaws.{Place, starts, codes, fills, ends, place, past-fields, in-fields, codeFault, fieldFault, byteFault, endFault, fault-start, fault-code, fault-field, fault-past, code-in, finished-last}
+use Rattle.rules.proofs.FaultLaws.{Place, starts, codes, fills, ends, place, past-fields, in-fields}
+use Rattle.rules.proofs.FaultLaws.{codeFault, fieldFault, byteFault, endFault, fault-start, fault-code}
+use Rattle.rules.proofs.FaultLaws.{fault-field, fault-past, code-in, finished-last}
 use Rattle.rules.proofs.OccurrenceLaws.{stamps, occurrences}
 use Rattle.rules.proofs.CleanLaws.{Clean, clean-clear, clear-unfinished}
 use Rattle.rules.proofs.SoundLaws.{Sound, sound, word-row-known}
 use Rattle.rules.proofs.StatedLaws.{opened}
 use Rattle.field.specs.Streaming.{faultOf}
 use Rattle.field.proofs.LengthLaws.{length-is, code-is}
-use Rattle.line.specs.Machine.{grownOf, dueOf, wordRow, codeBarOf, fieldBarOf, barOf, controlOf, inFieldOf, pastOf, startOf, stepOf}
+use Rattle.line.specs.Machine.{grownOf, dueOf, wordRow, codeBarOf, fieldBarOf, barOf}
+use Rattle.line.specs.Machine.{controlOf, inFieldOf, pastOf, startOf, stepOf}
 use Rattle.line.specs.declared.hot.Hot.{Hot}
 use Rattle.line.specs.declared.step.Step.{Step}
 use Rattle.line.specs.declared.step.Step.the-variants.{Next, Broken}
@@ -34,7 +37,7 @@ use Rattle.line.proofs.OrderSim.{stands-is, misplaced-is, room-is}
 use Rattle.line.proofs.FieldSim.{found, found-is, opening-told, field-fault-is}
 
 -- the step that the rules ask for
-abbrev pub stepFor : Fault → Hot → Step
+abbrev stepFor : Fault → Hot → Step
 stepFor clear h = Next h
 stepFor (breaks n f) h = Broken n f
 
@@ -76,13 +79,15 @@ module _ (seen : List ℕ) (e : bars seen ≡ 1) where
   unfolding rowToBe
   known-row t = word-row-known (word seen) t
 
-  code-does : Sound seen → codeBarOf (hotOf seen) (stamps (rows seen)) (occurrences (rows seen)) (rowToBe seen) ≡ stepFor (codeFault seen) (hotOf (bar ∷ seen))
+  code-does : Sound seen → codeBarOf (hotOf seen) (stamps (rows seen)) (occurrences (rows seen)) (rowToBe seen)
+      ≡ stepFor (codeFault seen) (hotOf (bar ∷ seen))
   unfolding codeBarOf
   code-does s =
       let r = rowToBe seen in
       split (eqb r none) (λ t. rw t)
       (λ t. let row = known-row t in
-      rw (t, stands-is (rows seen) (s .stood) r row, misplaced-is seen (omega arith) (opened seen s) r, room-is (rows seen) r row (stood-rows (rows seen) (s .stood)))
+      let room = room-is (rows seen) r row (stood-rows (rows seen) (s .stood)) in
+      rw (t, stands-is (rows seen) (s .stood) r row, misplaced-is seen (omega arith) (opened seen s) r, room)
       (split (canStand r (rows seen))
       (λ c. rw c
       (split (isData r && openedBy "1" (lines seen) || isClosing r && openedBy "0" (lines seen)) (λ m. rw m)
@@ -91,11 +96,14 @@ module _ (seen : List ℕ) (e : bars seen ≡ 1) where
 
 -- The bar after a later field.
 field-does : (seen : List ℕ) → 2 ≤ bars seen → Sound seen
-    → fieldBarOf (hotOf seen) (faultOf (hotOf seen .kind) (hotOf seen .field) (dueOf (hotOf seen))) ≡ stepFor (fieldFault seen) (hotOf (bar ∷ seen))
+    → fieldBarOf (hotOf seen) (faultOf (hotOf seen .kind) (hotOf seen .field) (dueOf (hotOf seen)))
+    ≡ stepFor (fieldFault seen) (hotOf (bar ∷ seen))
 unfolding fieldBarOf
 field-does seen late s =
     rw (found-is seen late s, field-fault-is seen)
-    (split (eqb (found seen) 0) (λ t. rw (t, hot-moved seen late (s .known late .0) (opening-told seen (eqb-true (found seen) 0 t)))) (λ t. rw t))
+    (split (eqb (found seen) 0)
+    (λ t. rw (t, hot-moved seen late (s .known late .0) (opening-told seen (eqb-true (found seen) 0 t))))
+    (λ t. rw t))
 
 -- Past the last field.
 end-does : (seen : List ℕ) (b : ℕ) → 3 ≤ bars seen → pastOf (hotOf seen) b ≡ stepFor (endFault seen b) (hotOf (b ∷ seen))
@@ -104,7 +112,9 @@ end-does seen b h =
     rw (empty-is seen)
     (split (empty (word seen))
     (λ t. rw t
-    (split (eqb b CR) (λ c. rw (c, eqb-true b CR c, hot-grown seen CR refl refl)) (λ c. rw c (split (eqb b LF) (λ d. rw d) (λ d. rw d)))))
+    (split (eqb b CR)
+    (λ c. rw (c, eqb-true b CR c, hot-grown seen CR refl refl))
+    (λ c. rw c (split (eqb b LF) (λ d. rw d) (λ d. rw d)))))
     (λ t. rw t (split (eqb b LF) (λ c. rw (c, eqb-true b LF c, hot-ended seen h)) (λ c. rw c))))
 
 -- A byte of a field, whichever it is.

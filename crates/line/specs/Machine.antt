@@ -1,12 +1,13 @@
 -- What the checker does with one byte, at every state: one definition for each function of the step.
-use mathlib.Core.Bool.{Bool, true, false, not, _&&_, _||_}
+use mathlib.Core.Bool.{Bool, not, _&&_, _||_}
 use mathlib.Core.Path.{_≡_}
-use mathlib.Core.List.{List, [], _∷_}
-use Prim.Native.Nat.{ℕ, zero, suc, _+_, _-_, _≤_}
+use mathlib.Core.List.{List}
+use Prim.Native.Nat.{ℕ, _+_, _≤_}
 use lib.Dec.{eqb, leb, ltb}
 use lib.ListN.{getD}
 use Rattle.layout.specs.Pick.{pick}
-use Rattle.layout.specs.Rows.{rowCount, none, anyNumber, level, limit, fields, mostFields, block, parent, isOpening, isClosing, row0000, row9990, row9999, rowOfCode}
+use Rattle.layout.specs.Rows.{rowCount, none, anyNumber, level, limit, fields, mostFields, block}
+use Rattle.layout.specs.Rows.{parent, isOpening, isClosing, row0000, row9990, row9999, rowOfCode}
 use Rattle.layout.specs.Kinds.{opens, kind}
 use Rattle.layout.specs.Packed.{rowNumbers, parentColumn, packedKinds, startColumn, slotTable, kindNumber, mostKind}
 use Rattle.rules.specs.Bytes.{bar, CR, LF, isEndByte}
@@ -155,7 +156,8 @@ saysOf h = pick (eqb (h .kind) (kindNumber opens)) (pick (eqb (h .field .value) 
 
 unfoldable pub fieldBarOf : Hot → ℕ → Step
 fieldBarOf h n =
-    pick (eqb n 0) (Next (movedOf h (h .row) (h .fields) (kindNumber (kind (h .row) (h .bars + 1))) (saysOf h))) (Broken n (h .bars))
+    pick (eqb n 0) (Next (movedOf h (h .row) (h .fields) (kindNumber (kind (h .row) (h .bars + 1))) (saysOf h)))
+    (Broken n (h .bars))
 
 unfoldable pub barOf : Hot → List ℕ → List ℕ → Step
 barOf h stamps occurrences =

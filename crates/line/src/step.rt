@@ -1,12 +1,13 @@
 // One byte: the next state, or the broken rule with the field.
 ghost use mathlib.Core.Path.{_≡_};
-ghost use Prim.Native.Nat.{_≤_, _<_, _+_};
+ghost use Prim.Native.Nat.{_≤_};
 ghost use Rattle.layout.specs.Rows.{rowCount};
 ghost use Rattle.layout.specs.Packed.{rowNumbers, parentColumn, packedKinds, startColumn, slotTable, kindNumber};
 ghost use Rattle.layout.specs.Kinds.{kind};
 ghost use Rattle.rules.specs.Bytes.{isEndByte};
 ghost use Rattle.field.specs.Streaming.{faultOf};
-ghost use Rattle.line.specs.Machine.{HotFit, Tables, wordRow, codeBarOf, dueOf, saysOf, fieldBarOf, barOf, controlOf, pastOf, startOf, stepOf};
+ghost use Rattle.line.specs.Machine.{HotFit, Tables, wordRow, codeBarOf, dueOf, saysOf, fieldBarOf, barOf, controlOf};
+ghost use Rattle.line.specs.Machine.{pastOf, startOf, stepOf};
 use crate::hot::CODE_KIND;
 use crate::hot::Hot;
 use crate::hot::ended;

@@ -12,9 +12,20 @@ use Rattle.rules.specs.Rules
 use Rattle.rules.specs.BareCases.{rowNamed, rowsNamed, placed, dueAfter, lineCases, numberOf, brokenAfter, dated, byteCases}
 
 pub line-cases : map (λ c. c .says) lineCases ≡ map (λ c. c .given) lineCases
-unfolding lineCases rowNamed rowsNamed placed dueAfter Text.bytes Text.codeNumber Text.textNumber Rows.rowTable Rows.listed Rows.code Rows.level Rows.occurrence Rows.limit Rows.blockLetters Rows.placeOf Rows.block Rows.isOpening Rows.isClosing Rows.lastAmong Rows.parent Rows.opening Rows.rowFrom Rows.rowOfCode Order.last Order.shallower Order.openRows Order.among Order.isOpen Order.startsBlock Order.hangs Order.canStand Order.underParent Order.hasRoom Counts.linesOfBlock Counts.due
+unfolding lineCases rowNamed rowsNamed placed dueAfter Text.bytes Text.codeNumber Text.textNumber Rows.rowTable
+    Rows.listed Rows.code Rows.level Rows.occurrence Rows.limit Rows.blockLetters Rows.placeOf Rows.block
+    Rows.isOpening Rows.isClosing Rows.lastAmong Rows.parent Rows.opening Rows.rowFrom Rows.rowOfCode Order.last
+    Order.shallower Order.openRows Order.among Order.isOpen Order.startsBlock Order.hangs Order.canStand
+    Order.underParent Order.hasRoom Counts.linesOfBlock Counts.due
 line-cases = refl
 
 pub byte-cases : map (λ c. c .says) byteCases ≡ map (λ c. c .given) byteCases
-unfolding byteCases numberOf brokenAfter dated Text.bytes Text.codeNumber Text.textNumber Rows.rowTable Rows.listed Rows.code Rows.fields Rows.isOpening Rows.isClosing Rows.rowFrom Rows.rowOfCode Kinds.sheets Kinds.sheetOr Kinds.kindsOf Kinds.kind Bytes.cut Bytes.lineAtHand Bytes.part Bytes.field Bytes.rowOfWord Bytes.rowOf Bytes.rowAtHand Bytes.bars Bytes.word Bytes.empty Bytes.isEndByte Fields.isDigit Fields.allDigits Fields.value Fields.isLeapYear Fields.daysOf Fields.isDate Fields.sameBytes Fields.isText Fields.formOf Rules.inField Rules.pastFields Rules.isCodeBar Rules.isFieldBar Rules.formAtHand Rules.breaks1 Rules.breaks2 Rules.breaks3 Rules.breaks4 Rules.breaks5 Rules.breaks6 Rules.breaks7 Rules.breaks8 Rules.breaks9 Rules.breaks10 Rules.breaks11 Rules.breaks12 Rules.breaks13 Rules.rules Rules.firstBroken
+unfolding byteCases numberOf brokenAfter dated Text.bytes Text.codeNumber Text.textNumber Rows.rowTable
+    Rows.listed Rows.code Rows.fields Rows.isOpening Rows.isClosing Rows.rowFrom Rows.rowOfCode Kinds.sheets
+    Kinds.sheetOr Kinds.kindsOf Kinds.kind Bytes.cut Bytes.lineAtHand Bytes.part Bytes.field Bytes.rowOfWord
+    Bytes.rowOf Bytes.rowAtHand Bytes.bars Bytes.word Bytes.empty Bytes.isEndByte Fields.isDigit
+    Fields.allDigits Fields.value Fields.isLeapYear Fields.daysOf Fields.isDate Fields.sameBytes Fields.isText
+    Fields.formOf Rules.inField Rules.pastFields Rules.isCodeBar Rules.isFieldBar Rules.formAtHand Rules.breaks1
+    Rules.breaks2 Rules.breaks3 Rules.breaks4 Rules.breaks5 Rules.breaks6 Rules.breaks7 Rules.breaks8
+    Rules.breaks9 Rules.breaks10 Rules.breaks11 Rules.breaks12 Rules.breaks13 Rules.rules Rules.firstBroken
 byte-cases = refl

@@ -8,7 +8,7 @@ use lib.ListN.{set}
 use borrow.Author.Tests.{lt-ltb, eqb-true}
 use Rattle.layout.specs.Pick.{pick}
 use Rattle.layout.specs.Rows.{rowCount}
-use Rattle.rules.specs.Bytes.{LF, lines, rows, rowAtHand}
+use Rattle.rules.specs.Bytes.{LF, rows, rowAtHand}
 use Rattle.rules.specs.Counts.{linesOfRow, countsOfRows}
 use Rattle.rules.specs.Rules.{clear, fault}
 use Rattle.rules.proofs.TestLaws.{split}
@@ -42,21 +42,25 @@ module _ (seen : List ℕ) (b : ℕ) (c : Clean seen) (e : fault seen b ≡ clea
       split (eqb b LF)
       (λ t. let p = eqb-true b LF t in
       let row = ended-row p in
-      rw (t, lt-ltb (rowAtHand seen) rowCount row, ← line p row) (ap kept (sym (rows-lf seen) ∙ ap (λ x. rows (x ∷ seen)) (sym p))))
+      rw (t, lt-ltb (rowAtHand seen) rowCount row, ← line p row)
+      (ap kept (sym (rows-lf seen) ∙ ap (λ x. rows (x ∷ seen)) (sym p))))
       (λ t. rw t (ap kept (sym (rows-on seen b t))))
 
   pub counts-next : countsWith (hotOf seen) b (countsOfRows (rows seen)) ≡ countsOfRows (rows (b ∷ seen))
   unfolding countsWith
   counts-next =
-      array-next countsOfRows _ (λ p row. rw (entry-count (rows seen) (rowAtHand seen) row, add-one) (counts-line (rows seen) (rowAtHand seen) row))
+      array-next countsOfRows _
+      (λ p row. rw (entry-count (rows seen) (rowAtHand seen) row, add-one) (counts-line (rows seen) (rowAtHand seen) row))
 
   pub stamps-next : stampsWith (hotOf seen) (hotOf (b ∷ seen) .lines) b (stamps (rows seen)) ≡ stamps (rows (b ∷ seen))
   unfolding stampsWith
   stamps-next =
       array-next stamps _ (λ p row. rw (p, lines-lf seen, ← rows-length seen) (stamps-line (rows seen) (rowAtHand seen) row))
 
-  pub occurrences-next : occurrencesWith (hotOf seen) b (stamps (rows seen)) (occurrences (rows seen)) ≡ occurrences (rows (b ∷ seen))
+  pub occurrences-next : occurrencesWith (hotOf seen) b (stamps (rows seen)) (occurrences (rows seen))
+      ≡ occurrences (rows (b ∷ seen))
   unfolding occurrencesWith
   occurrences-next =
       let all = stood-rows (rows seen) (sound seen c .stood) in
-      array-next occurrences _ (λ p row. rw (used-is (rows seen) (rowAtHand seen) row all, add-one) (occurrences-line (rows seen) (rowAtHand seen) row))
+      array-next occurrences _
+      (λ p row. rw (used-is (rows seen) (rowAtHand seen) row all, add-one) (occurrences-line (rows seen) (rowAtHand seen) row))

@@ -57,10 +57,11 @@ module _ (s : State) where
   module _ (ranged : rangedOf s ≡ true) where
     pub finish-late : s .finished ≡ true → finishOf s ≡ finallyUnchanged Final.Late s
     unfolding finishOf
-    finish-late d = at-second (rangedOf s) (s .finished) (finallyUnchanged Final.Late s) _ (finallyUnchanged Final.Damaged s) ranged d
+    finish-late d =
+        at-second (rangedOf s) (s .finished) (finallyUnchanged Final.Late s) _ (finallyUnchanged Final.Damaged s) ranged d
 
     pub finish-now : s .finished ≡ false → finishOf s ≡ record { answer = finalAnswerOf s; state = closedOf s }
     unfolding finishOf
     finish-now d =
-        at-third (rangedOf s) (s .finished) (finallyUnchanged Final.Late s) (record { answer = finalAnswerOf s; state = closedOf s })
-        (finallyUnchanged Final.Damaged s) ranged d
+        at-third (rangedOf s) (s .finished) (finallyUnchanged Final.Late s)
+        (record { answer = finalAnswerOf s; state = closedOf s }) (finallyUnchanged Final.Damaged s) ranged d

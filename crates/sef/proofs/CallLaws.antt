@@ -71,8 +71,8 @@ module _ (s : State) where
   pub finishes-late : rangedOf s ≡ true → s .finished ≡ true → Finishes s (finallyUnchanged Final.Late s)
   finishes-late e d = finishes (finallyUnchanged Final.Late s) (sym (finish-late s e d))
 
-  pub finishes-now : (a : FinalAnswer) (t : State) → rangedOf s ≡ true → s .finished ≡ false → a ≡ finalAnswerOf s → t ≡ closedOf s
-      → Finishes s (record { answer = a; state = t })
+  pub finishes-now : (a : FinalAnswer) (t : State) → rangedOf s ≡ true → s .finished ≡ false → a ≡ finalAnswerOf s
+      → t ≡ closedOf s → Finishes s (record { answer = a; state = t })
   finishes-now a t e d p q =
       finishes (record { answer = a; state = t }) ((λ i. record { answer = p i; state = q i }) ∙ sym (finish-now s e d))
 
@@ -100,8 +100,8 @@ module _ (s : State) (before : List ℕ) where
         ended = λ file g w. absurd (no-room-said w);
       }
 
-  pub reports-written : (after : List ℕ) → rangedOf s ≡ true → rowCount ≤ length before → after ≡ s .tally .counts ++ drop rowCount before
-      → Reports s before (Report.Written (s .hot .lines) (s .hot .bytes)) after
+  pub reports-written : (after : List ℕ) → rangedOf s ≡ true → rowCount ≤ length before
+      → after ≡ s .tally .counts ++ drop rowCount before → Reports s before (Report.Written (s .hot .lines) (s .hot .bytes)) after
   reports-written after e l p =
       record {
         exact = unfold reportOf in rw (e, le-ltb (length before) rowCount l);

@@ -75,7 +75,8 @@ comes-ranged c (stops-by h t rule field d one most named) = stopped-ranged h t r
 pub data Pieces (s : State) (piece : List ℕ) : Checked → Type 0 where
   late : s .finished ≡ true → Pieces s piece (unchanged Piece.Late s)
   kept : s .finished ≡ false → (s .rule ≡ 0 → ⊥) → Pieces s piece (unchanged (Piece.Refused (keptOf s)) s)
-  run : s .finished ≡ false → s .rule ≡ 0 → Comes (runOf (s .hot) (s .tally) piece) → Pieces s piece (runOf (s .hot) (s .tally) piece)
+  run : s .finished ≡ false → s .rule ≡ 0 → Comes (runOf (s .hot) (s .tally) piece)
+      → Pieces s piece (runOf (s .hot) (s .tally) piece)
 
 module _ (s : State) (ranged : rangedOf s ≡ true) where
   pub check-pieces : (piece : List ℕ) → AllBytes piece → Pieces s piece (checkOf s piece)
@@ -83,7 +84,8 @@ module _ (s : State) (ranged : rangedOf s ≡ true) where
   check-pieces piece all = rw ranged (go (s .finished) refl (eqb (s .rule) 0) refl)
     where
       go : (f : Bool) → s .finished ≡ f → (z : Bool) → eqb (s .rule) 0 ≡ z
-          → Pieces s piece (pick f (unchanged Piece.Late s) (pick z (runOf (s .hot) (s .tally) piece) (unchanged (Piece.Refused (keptOf s)) s)))
+          → Pieces s piece (pick f (unchanged Piece.Late s)
+          (pick z (runOf (s .hot) (s .tally) piece) (unchanged (Piece.Refused (keptOf s)) s)))
       go true d z e = late d
       go false d true e =
           let q = eqb-true (s .rule) 0 e in

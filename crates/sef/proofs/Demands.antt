@@ -2,15 +2,14 @@
 use mathlib.Core.Path.{_≡_, _∙_, refl, sym, ap, subst}
 use mathlib.Core.Bool.{Bool, true, false}
 use mathlib.Core.List.{List, [], _++_, reverse}
-use mathlib.Core.Logic.{_⊎_, inr, ⊎-elim}
+use mathlib.Core.Logic.{inr, ⊎-elim}
 use Prim.Native.Nat.{ℕ, _+_, _≤_}
 use native.Mathlib.Omega.{arith}
-use lib.Dec.{eqb, ltb}
+use lib.Dec.{eqb}
 use lib.ListN.{length, take, drop}
 use lib.Seq.{take-at}
 use borrow.Author.Tests.{ne-eqb, eqb-true, eqb-false, le-ltb, lt-ltb}
-use Rattle.layout.specs.Pick.{pick}
-use Rattle.layout.specs.Rows.{rowCount, block, row9999}
+use Rattle.layout.specs.Rows.{rowCount, block}
 use Rattle.rules.specs.Bytes.{rowOf, rows}
 use Rattle.rules.specs.Totals.{blockCount}
 use Rattle.rules.specs.Verdict.{countsOf, counts, standing}
@@ -21,10 +20,9 @@ use Rattle.rules.proofs.FollowsLaws.{refused-names}
 use Rattle.rules.proofs.TotalLaws.{accepted-last, accepted-sum, accepted-total, accepted-closing, accepted-first}
 use Rattle.rules.proofs.TotalLaws.{accepted-has-0-and-9}
 use Rattle.sef.specs.Answers.{numbers, numbersOf, said, finallySaid, reportSaid}
-use Rattle.sef.specs.Calls.{openOf, stoppedOf, runOf, keptOf, unchanged, checkOf, finalAnswerOf, finallyUnchanged, finishOf}
-use Rattle.sef.specs.Calls.{reportOf, reportedOf}
+use Rattle.sef.specs.Calls.{openOf, stoppedOf, runOf, keptOf, unchanged, checkOf, finalAnswerOf, finishOf, reportOf}
 use Rattle.sef.specs.Ranges.{rangedOf}
-use Rattle.sef.specs.Promises.{AllBytes, Reached, start, more, Checks, Finishes, Reports}
+use Rattle.sef.specs.Promises.{Reached, start, more, Finishes}
 use Rattle.sef.specs.Demands as D
 use Rattle.sef.specs.Demands.{Answered, isAccepted, isRefused, InTable, unrefused, byRule, ofCall, Stays}
 use Rattle.sef.specs.declared.state.State.{State}
@@ -42,66 +40,8 @@ use Rattle.sef.proofs.ClosedLaws.{stopped-ranged, Pieces, late, kept, r
 use Rattle.sef.proofs.ClosedLaws.{finish-finishing}
 use Rattle.sef.proofs.Joined.{reached-state, reached-ranged, reached-open, given-ranged}
 use Rattle.sef.proofs.CallCases.{check-damaged, check-late, check-kept, check-run, finish-damaged, finish-late, finish-now}
-
--- A piece at any state: 19, or what it comes to at a state in range.
-data AnyPiece (s : State) (piece : List ℕ) : Checked → Type 0 where
-  damaged : rangedOf s ≡ false → AnyPiece s piece (unchanged Piece.Damaged s)
-  ranged : rangedOf s ≡ true → {c : Checked} → Pieces s piece c → AnyPiece s piece c
-
-any-piece : (s : State) (piece : List ℕ) → AllBytes piece → AnyPiece s piece (checkOf s piece)
-any-piece s piece all = go (rangedOf s) refl
-  where
-    go : (t : Bool) → rangedOf s ≡ t → AnyPiece s piece (checkOf s piece)
-    go true e = ranged e (check-pieces s e piece all)
-    go false e = subst (AnyPiece s piece) (sym (check-damaged s piece e)) (damaged e)
-
-data AnyFinish (s : State) : Finished → Type 0 where
-  damaged : rangedOf s ≡ false → AnyFinish s (finallyUnchanged Final.Damaged s)
-  ranged : rangedOf s ≡ true → {c : Finished} → Finishing s c → AnyFinish s c
-
-any-finish : (s : State) → AnyFinish s (finishOf s)
-any-finish s = go (rangedOf s) refl
-  where
-    go : (t : Bool) → rangedOf s ≡ t → AnyFinish s (finishOf s)
-    go true e = ranged e (finish-finishing s e)
-    go false e = subst (AnyFinish s) (sym (finish-damaged s e)) (damaged e)
-
--- A report at any state.
-data AnyReport (s : State) (before : List ℕ) : ReportAnswer → List ℕ → Type 0 where
-  damaged : rangedOf s ≡ false → AnyReport s before Report.Damaged before
-  no-room : rangedOf s ≡ true → AnyReport s before Report.NoRoom before
-  writes : rangedOf s ≡ true → AnyReport s before (Report.Written (s .hot .lines) (s .hot .bytes)) (s .tally .counts ++ drop rowCount before)
-
-any-report : (s : State) (before : List ℕ) → AnyReport s before (reportOf s before) (reportedOf s before)
-unfolding reportOf reportedOf
-any-report s before = go (rangedOf s) refl (ltb (length before) rowCount)
-  where
-    go : (t : Bool) → rangedOf s ≡ t → (l : Bool)
-        → AnyReport s before (pick t (pick l Report.NoRoom (Report.Written (s .hot .lines) (s .hot .bytes))) Report.Damaged)
-        (pick t (pick l before (s .tally .counts ++ drop rowCount before)) before)
-    go true e true = no-room e
-    go true e false = writes e
-    go false e l = damaged e
-
-report-any : (s : State) (before : List ℕ) (r : ReportAnswer) (after : List ℕ) → Reports s before r after → AnyReport s before r after
-report-any s before r after c = rw (c .exact, c .buffer) (any-report s before)
-
--- The final answer, by its tests.
-data Finals (s : State) : FinalAnswer → Type 0 where
-  accepts : Finals s (Final.Accepted (s .hot .lines) (s .hot .bytes))
-  short : Finals s (Final.Refused (numbers 14 (s .hot .lines + 1) 0 (s .hot .lines) (s .hot .bytes)))
-  keeps : (s .rule ≡ 0 → ⊥) → Finals s (Final.Refused (keptOf s))
-
-finals : (s : State) → Finals s (finalAnswerOf s)
-unfolding finalAnswerOf
-finals s = go (eqb (s .rule) 0) refl (eqb (s .hot .last) row9999)
-  where
-    go : (z : Bool) → eqb (s .rule) 0 ≡ z → (t : Bool)
-        → Finals s (pick z (pick t (Final.Accepted (s .hot .lines) (s .hot .bytes))
-        (Final.Refused (numbers 14 (s .hot .lines + 1) 0 (s .hot .lines) (s .hot .bytes)))) (Final.Refused (keptOf s)))
-    go true e true = accepts
-    go true e false = short
-    go false e t = keeps (eqb-false (s .rule) 0 e)
+use Rattle.sef.proofs.CallViews.{AnyPiece, any-piece, AnyFinish, any-finish, AnyReport, report-any, Finals, finals}
+use Rattle.sef.proofs.CallViews.{damaged, ranged, no-room, writes, accepts, short, keeps}
 
 -- The answers' numbers.
 module _ (s : State) where
@@ -267,7 +207,8 @@ report-sane s e before r after (writes d) q = let z : _≡_ {A = ℕ} 0 1 = cc i
 pub ranges-closed : D.RangesClosed
 ranges-closed s e = (
   (λ piece r all c.
-      (c .inRange e, (λ q. piece-sane s piece (checkOf s piece) (check-pieces s e piece all) (sym (ap (λ x. x .answer) (c .exact)) ∙ q)))),
+      let gives = ap (λ x. x .answer) (c .exact) in
+      (c .inRange e, (λ q. piece-sane s piece (checkOf s piece) (check-pieces s e piece all) (sym gives ∙ q)))),
   (λ r c. (c .inRange e, (λ q. finish-sane s (finishOf s) (finish-finishing s e) (sym (ap (λ x. x .answer) (c .exact)) ∙ q)))),
   (λ before r after c q. report-sane s e before r after (report-any s before r after c) q),
 )
@@ -379,7 +320,8 @@ pub then-late : D.ThenLate
 then-late s r e c =
     let in-range = c .inRange e in
     let marked = ap (λ x. x .state .finished) (c .exact) ∙ finishing-marks s (finishOf s) (finish-finishing s e) in (
-      (λ piece q k. let p = k .exact ∙ check-late (r .state) piece in-range marked in (ap (λ x. x .answer) p, ap (λ x. x .state) p)),
+      (λ piece q k.
+          let p = k .exact ∙ check-late (r .state) piece in-range marked in (ap (λ x. x .answer) p, ap (λ x. x .state) p)),
       (λ q k. let p = k .exact ∙ finish-late (r .state) in-range marked in (ap (λ x. x .answer) p, ap (λ x. x .state) p)),
     )
 
@@ -412,7 +354,7 @@ empty-piece s r c = ap (λ x. x .state) (c .exact) ∙ empty-left s
 pub report-at-any-time : D.ReportAtAnyTime
 report-at-any-time file s before r after g l c =
     let e = given-ranged file s g in
-    let p : r ≡ Report.Written (s .hot .lines) (s .hot .bytes) = c .exact ∙ unfold reportOf in rw (e, le-ltb (length before) rowCount l) in
+    let p : r ≡ Report.Written (s .hot .lines) (s .hot .bytes) = c .exact ∙ unfold reportOf in rw (e, le-ltb _ _ l) in
     let z : reportSaid r .refusal ≡ 0 = ap (λ x. reportSaid x .refusal) p ∙ unfold reportSaid in refl in
     (z, counts-98 file, c .counted file g z)
 

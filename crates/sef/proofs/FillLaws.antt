@@ -8,9 +8,11 @@ use lib.ListN.{length, getD, set, take, drop, length-append, length-take, length
 use lib.Seq.{drop-cons, set-at, take-suc, append-snoc, length-take-le, take-all}
 
 module _ (a before : List ℕ) (i : ℕ) where
-  copied-more : i < length a → i < length before → set (take i a ++ drop i before) i (getD a i 0) ≡ take (i + 1) a ++ drop (i + 1) before
+  copied-more : i < length a → i < length before
+      → set (take i a ++ drop i before) i (getD a i 0) ≡ take (i + 1) a ++ drop (i + 1) before
   copied-more h l =
-      rw (drop-cons before i 0 l, set-at (take i a) (getD before i 0) (drop (suc i) before) (getD a i 0) i (length-take-le i a (omega arith)), add-one, take-suc a i 0 h)
+      let here = set-at (take i a) (getD before i 0) (drop (suc i) before) (getD a i 0) i (length-take-le i a (omega arith)) in
+      rw (drop-cons before i 0 l, here, add-one, take-suc a i 0 h)
       (sym (append-snoc (take i a) (getD a i 0) (drop (suc i) before)))
 
   copied-length : i ≤ length a → i ≤ length before → length (take i a ++ drop i before) ≡ length before
@@ -19,7 +21,7 @@ module _ (a before : List ℕ) (i : ℕ) where
 -- the loop's invariant: the first i elements of a are written, and the others are as before
 pub record Filling (a before out : List ℕ) (i : ℕ) : Type 0 where
   pub within : i ≤ length a
-  pub copied : out ≡ take i a ++ drop i before
+  copied : out ≡ take i a ++ drop i before
 
 module _ (a before : List ℕ) where
   pub filling-start : Filling a before before 0
@@ -31,7 +33,10 @@ module _ (a before : List ℕ) where
 
     pub filling-more : i < length a → Filling a before (set out i (getD a i 0)) (i + 1)
     filling-more h =
-        record { within = omega arith; copied = ap (λ o. set o i (getD a i 0)) (f .copied) ∙ copied-more a before i h (omega arith) }
+        record {
+          within = omega arith;
+          copied = ap (λ o. set o i (getD a i 0)) (f .copied) ∙ copied-more a before i h (omega arith);
+        }
 
     pub filling-all : (n : ℕ) → length a ≡ n → n ≤ i → out ≡ a ++ drop n before
     filling-all n l h =

@@ -18,7 +18,9 @@ use Rattle.line.proofs.HotOf.{says, lastSays}
 use Rattle.sef.proofs.StateAfter.{openAt, checkedAfter, after-clean}
 
 fresh-open : fresh ≡ openAt [] .state
-unfolding fresh openOf says lastSays lines rows last since cut lineAtHand bars word rowAtHand rowOf rowOfWord field part fields listed rowTable kind kindsOf isOpening isClosing code bytes codeNumber textNumber sheets sheetOr kindNumber fieldAfter countsOfRows tabulate linesOfRow stamps stamped occurrences occurred
+unfolding fresh openOf says lastSays lines rows last since cut lineAtHand bars word rowAtHand rowOf rowOfWord
+    field part fields listed rowTable kind kindsOf isOpening isClosing code bytes codeNumber textNumber
+    sheets sheetOr kindNumber fieldAfter countsOfRows tabulate linesOfRow stamps stamped occurrences occurred
 fresh-open = refl
 
 pub fresh-is : fresh ≡ checkedAfter [] .state

@@ -1,4 +1,5 @@
--- Pieces: the state after calls from a fresh start is in range, and is that of the joined bytes. So each answer is the rules' answer.
+-- Pieces: the state after calls from a fresh start is in range, and is that of the joined bytes. So each answer is the rules'
+-- answer.
 use mathlib.Core.Path.{_≡_, _∙_, refl, sym, ap}
 use mathlib.Core.Bool.{true, false, true≢false}
 use mathlib.Core.List.{List, [], _++_, reverse, reverseAux-append}
@@ -24,7 +25,8 @@ abbrev stateOfFile : List ℕ → State
 stateOfFile file = checkedAfter (reverse file) .state
 
 -- a piece after a file is the file joined with it
-joins : (file piece : List ℕ) → rangedOf (stateOfFile file) ≡ true → checkOf (stateOfFile file) piece ≡ checkedAfter (reverse (file ++ piece))
+joins : (file piece : List ℕ) → rangedOf (stateOfFile file) ≡ true
+    → checkOf (stateOfFile file) piece ≡ checkedAfter (reverse (file ++ piece))
 joins file piece e = check-after (reverse file) e piece ∙ ap checkedAfter (sym (reverseAux-append file piece []))
 
 -- so each state that is reached is that of the joined bytes

@@ -11,4 +11,5 @@ pub mod StateAfter
 pub mod FreshState
 pub mod Joined
 pub mod CallLaws
+pub mod CallViews
 pub mod Demands

@@ -48,42 +48,8 @@ module _ (m : ℕ) (xs : List ℕ) where
   within-all (suc n) h = rw (le-leb (getD xs n 0) m (h n (omega arith))) (within-all n (λ k l. h k (omega arith)))
 
 -- The hot part.
-record LineFit (h : Hot) : Type 0 where
-  bars : h .bars ≤ mostBars
-  row : h .row ≤ rowCount
-  fields : h .fields ≤ mostFields
-  kind : h .kind ≤ mostKind
-  length : h .field .length ≤ h .bytes
-  wrong : h .field .wrong ≤ 1
-  value : h .field .value ≤ cap
-
-line-fit : (h : Hot) → lineRanged h ≡ true → LineFit h
-unfolding lineRanged
-line-fit h e =
-    let a = leb (h .bars) mostBars in
-    let b = leb (h .row) rowCount in
-    let c = leb (h .fields) mostFields in
-    let d = leb (h .kind) mostKind in
-    let l = leb (h .field .length) (h .bytes) in
-    let w = leb (h .field .wrong) 1 in
-    let v = leb (h .field .value) cap in
-    let e₆ = and-left (a && b && c && d && l && w) v e in
-    let e₅ = and-left (a && b && c && d && l) w e₆ in
-    let e₄ = and-left (a && b && c && d) l e₅ in
-    let e₃ = and-left (a && b && c) d e₄ in
-    let e₂ = and-left (a && b) c e₃ in
-    record {
-      bars = leb-true _ _ (and-left a b e₂);
-      row = leb-true _ _ (and-right a b e₂);
-      fields = leb-true _ _ (and-right (a && b) c e₃);
-      kind = leb-true _ _ (and-right (a && b && c) d e₄);
-      length = leb-true _ _ (and-right (a && b && c && d) l e₅);
-      wrong = leb-true _ _ (and-right (a && b && c && d && l) w e₆);
-      value = leb-true _ _ (and-right (a && b && c && d && l && w) v e);
-    }
-
 fit-of : (h : Hot) → hotRanged h ≡ true → HotFit h
-unfolding hotRanged
+unfolding hotRanged lineRanged
 fit-of h e =
     let a = leb (h .bytes) (byteLimit + 1) in
     let b = leb (h .lines) (h .bytes) in
@@ -94,20 +60,32 @@ fit-of h e =
     let e₄ = and-left (a && b && c && d) s e₅ in
     let e₃ = and-left (a && b && c) d e₄ in
     let e₂ = and-left (a && b) c e₃ in
-    let line = line-fit h (and-right (a && b && c && d && s) (lineRanged h) e) in
+    let p = leb (h .bars) mostBars in
+    let r = leb (h .row) rowCount in
+    let f = leb (h .fields) mostFields in
+    let k = leb (h .kind) mostKind in
+    let l = leb (h .field .length) (h .bytes) in
+    let w = leb (h .field .wrong) 1 in
+    let v = leb (h .field .value) cap in
+    let line = and-right (a && b && c && d && s) (lineRanged h) e in
+    let l₆ = and-left (p && r && f && k && l && w) v line in
+    let l₅ = and-left (p && r && f && k && l) w l₆ in
+    let l₄ = and-left (p && r && f && k) l l₅ in
+    let l₃ = and-left (p && r && f) k l₄ in
+    let l₂ = and-left (p && r) f l₃ in
     record {
       bytes = leb-true _ _ (and-left a b e₂);
       lines = leb-true _ _ (and-right a b e₂);
       last = leb-true _ _ (and-right (a && b) c e₃);
       since = leb-true _ _ (and-right (a && b && c) d e₄);
       says = leb-true _ _ (and-right (a && b && c && d) s e₅);
-      bars = line .bars;
-      row = line .row;
-      fields = line .fields;
-      kind = line .kind;
-      length = line .length;
-      wrong = line .wrong;
-      value = line .value;
+      bars = leb-true _ _ (and-left p r l₂);
+      row = leb-true _ _ (and-right p r l₂);
+      fields = leb-true _ _ (and-right (p && r) f l₃);
+      kind = leb-true _ _ (and-right (p && r && f) k l₄);
+      length = leb-true _ _ (and-right (p && r && f && k) l l₅);
+      wrong = leb-true _ _ (and-right (p && r && f && k && l) w l₆);
+      value = leb-true _ _ (and-right (p && r && f && k && l && w) v line);
     }
 
 hot-ranged : (h : Hot) → HotFit h → hotRanged h ≡ true
@@ -177,8 +155,10 @@ unbroken rule field bytes z e =
 broken : (rule field bytes : ℕ) → (rule ≡ 0 → ⊥) → refusalRanged rule field bytes ≡ true → (rule ≤ mostRule) × (field ≤ mostBars)
 unfolding refusalRanged
 broken rule field bytes z e =
-    let e′ : (leb rule mostRule && leb field mostBars) ≡ true = rw (ne-eqb rule 0 z) at e in
-    (leb-true _ _ (and-left (leb rule mostRule) (leb field mostBars) e′), leb-true _ _ (and-right (leb rule mostRule) (leb field mostBars) e′))
+    let r = leb rule mostRule in
+    let f = leb field mostBars in
+    let e′ : (r && f) ≡ true = rw (ne-eqb rule 0 z) at e in
+    (leb-true _ _ (and-left r f e′), leb-true _ _ (and-right r f e′))
 
 -- A state in range, in its parts.
 module _ (s : State) (e : rangedOf s ≡ true) where

@@ -13,7 +13,7 @@ use Rattle.layout.specs.Rows.{row9999}
 use Rattle.rules.specs.Bytes.{lines, rows}
 use Rattle.rules.specs.Order.{last}
 use Rattle.rules.specs.Counts.{countsOfRows}
-use Rattle.rules.specs.Rules.{Fault, clear, breaks, fault, finished}
+use Rattle.rules.specs.Rules.{Fault, clear, breaks, fault}
 use Rattle.rules.specs.Verdict.{Verdict, stillOpen, refused, accepted, verdict, standing, counts, finishVerdict}
 use Rattle.rules.proofs.TestLaws.{split}
 use Rattle.rules.proofs.FaultLaws.{finished-last}
@@ -85,7 +85,8 @@ module _ (n line f l k : ℕ) where
       let v = verdict-stays seen b n line f l k e in
       rw (v, e, standing-refused seen b n line f l k v)
 
-  after-more : (piece seen : List ℕ) → verdict seen ≡ refused n line f l k → checkedAfter (reverseAux piece seen) ≡ checkedAfter seen
+  after-more : (piece seen : List ℕ) → verdict seen ≡ refused n line f l k
+      → checkedAfter (reverseAux piece seen) ≡ checkedAfter seen
   after-more [] seen e = refl
   after-more (b ∷ piece) seen e = after-more piece (b ∷ seen) (verdict-stays seen b n line f l k e) ∙ after-one seen b e
 
@@ -93,7 +94,8 @@ run-after : (piece seen : List ℕ) → Clean seen → runAt seen piece ≡ chec
 run-after [] seen c = unfold runOf in sym (after-clean seen c)
 run-after (b ∷ piece) seen c = go (fault seen b) refl (λ e. run-after piece (b ∷ seen) (clean-next seen b c e))
   where
-    go : (t : Fault) → fault seen b ≡ t → (fault seen b ≡ clear → runAt (b ∷ seen) piece ≡ checkedAfter (reverseAux piece (b ∷ seen)))
+    go : (t : Fault) → fault seen b ≡ t
+        → (fault seen b ≡ clear → runAt (b ∷ seen) piece ≡ checkedAfter (reverseAux piece (b ∷ seen)))
         → runAt seen (b ∷ piece) ≡ checkedAfter (reverseAux piece (b ∷ seen))
     go clear e ih = run-clear seen b c piece e ∙ ih e
     go (breaks n f) e ih =
@@ -153,7 +155,10 @@ module _ (seen : List ℕ) (ranged : rangedOf (checkedAfter seen .state) ≡ tru
 
   pub finish-after : finallySaid (finishOf (checkedAfter seen .state) .answer) ≡ finishVerdict seen
   finish-after =
-      ⊎-elim (λ c. rw (after-clean seen c) (finish-open c)) (λ r. rw (after-refused seen r) (finish-stopped r)) (clean-or-refused seen)
+      ⊎-elim
+      (λ c. rw (after-clean seen c) (finish-open c))
+      (λ r. rw (after-refused seen r) (finish-stopped r))
+      (clean-or-refused seen)
 
 -- what it says: the answer is the verdict of the bytes received, the counts are those of the lines that stand
 module _ (seen : List ℕ) where
@@ -167,7 +172,10 @@ module _ (seen : List ℕ) where
 
   pub said-after : said (checkedAfter seen .answer) ≡ verdict seen
   said-after =
-      ⊎-elim (λ c. rw (after-clean seen c) (said-open c)) (λ r. rw (after-refused seen r) (said-stopped r)) (clean-or-refused seen)
+      ⊎-elim
+      (λ c. rw (after-clean seen c) (said-open c))
+      (λ r. rw (after-refused seen r) (said-stopped r))
+      (clean-or-refused seen)
 
   -- lines ended and bytes judged
   abbrev Ended : Checked → Type 0
@@ -183,7 +191,10 @@ module _ (seen : List ℕ) where
 
   pub ended-after : Ended (checkedAfter seen)
   ended-after =
-      ⊎-elim (λ c. rw (after-clean seen c) (ended-open c)) (λ r. rw (after-refused seen r) (ended-stopped r)) (clean-or-refused seen)
+      ⊎-elim
+      (λ c. rw (after-clean seen c) (ended-open c))
+      (λ r. rw (after-refused seen r) (ended-stopped r))
+      (clean-or-refused seen)
 
   pub counts-after : checkedAfter seen .state .tally .counts ≡ counts seen
   unfolding checkedAfter counts

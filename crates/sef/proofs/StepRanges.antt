@@ -1,10 +1,12 @@
--- A step keeps within the ranges: from a hot part in range it goes on to one in range, or breaks a rule from 1 to 16 at a field of the line.
+-- A step keeps within the ranges: from a hot part in range it goes on to one in range, or breaks a rule from 1 to 16 at a field
+-- of the line.
 use mathlib.Core.Path.{_≡_, refl}
 use mathlib.Core.Bool.{Bool, true, false, _&&_}
 use mathlib.Core.List.{List}
 use Prim.Native.Nat.{ℕ, _+_, _<_, _≤_}
 use native.Mathlib.Omega.{arith}
 use lib.Dec.{T, eqb, leb, ltb, leb→le, lit≤}
+use lib.Ieee.Fits.{and-l, and-r}
 use borrow.Author.Tests.{eqb-true, eqb-false, leb-false, ltb-false}
 use Rattle.layout.specs.Pick.{pick}
 use Rattle.layout.specs.Rows.{rowCount, fields, mostFields, isClosing}
@@ -12,7 +14,6 @@ use Rattle.layout.specs.Kinds.{kind}
 use Rattle.layout.specs.Packed.{kindNumber, mostKind}
 use Rattle.rules.specs.Rules.{byteLimit}
 use Rattle.rules.proofs.TestLaws.{pick-le}
-use Rattle.layout.proofs.Below.{and-left, and-right}
 use Rattle.field.specs.Streaming.{FieldFit, emptyFault, contentFault, numberFault, textFault, faultOf}
 use Rattle.field.specs.declared.bytes.Field.{Field}
 use Rattle.line.specs.Machine.{HotFit, mostBars, data1, grownOf, movedOf, endedOf, sinceOf, codeBarOf, saysOf, fieldBarOf, barOf}
@@ -65,10 +66,10 @@ abbrev known : ℕ → Bool
 known rule = leb 1 rule && leb rule mostRule
 
 known-least : (rule : ℕ) → T (known rule) → 1 ≤ rule
-known-least rule t = leb→le 1 rule (and-left (leb 1 rule) (leb rule mostRule) t)
+known-least rule t = leb→le 1 rule (and-l (leb 1 rule) (leb rule mostRule) t)
 
 known-most : (rule : ℕ) → T (known rule) → rule ≤ mostRule
-known-most rule t = leb→le rule mostRule (and-right (leb 1 rule) (leb rule mostRule) t)
+known-most rule t = leb→le rule mostRule (and-r (leb 1 rule) (leb rule mostRule) t)
 
 module _ (h : Hot) (f : HotFit h) (small : h .bytes < byteLimit) where
   -- at the field at hand, and at no field or field 1
@@ -80,8 +81,8 @@ module _ (h : Hot) (f : HotFit h) (small : h .bytes < byteLimit) where
       let le = leb→le field 1 t in
       stops {rule = rule} {field = field} (known-least rule k) (known-most rule k) (omega arith)
 
-  moved-leads : h .bars ≤ mostFields → (r fields kind says : ℕ) → r ≤ rowCount → fields ≤ mostFields → kind ≤ mostKind → says ≤ data1
-      → Leads h (Next (movedOf h r fields kind says))
+  moved-leads : h .bars ≤ mostFields → (r fields kind says : ℕ) → r ≤ rowCount → fields ≤ mostFields → kind ≤ mostKind
+      → says ≤ data1 → Leads h (Next (movedOf h r fields kind says))
   moved-leads room r fields kind says row most small-kind said =
       goes {n = movedOf h r fields kind says}
       (record {
@@ -161,7 +162,8 @@ module _ (h : Hot) (f : HotFit h) (small : h .bytes < byteLimit) where
     field-leads n most = go (eqb n 0) refl
       where
         go : (t : Bool) → eqb n 0 ≡ t
-            → Leads h (pick t (Next (movedOf h (h .row) (h .fields) (kindNumber (kind (h .row) (h .bars + 1))) (saysOf h))) (Broken n (h .bars)))
+            → Leads h (pick t (Next (movedOf h (h .row) (h .fields) (kindNumber (kind (h .row) (h .bars + 1))) (saysOf h)))
+            (Broken n (h .bars)))
         go true e = moved-leads room (h .row) (h .fields) _ _ (f .row) (f .fields) (kind-most (h .row) (h .bars + 1)) says-le
         go false e = let z = eqb-false n 0 e in stops {rule = n} {field = h .bars} (omega arith) most (f .bars)
 
@@ -202,6 +204,7 @@ unfolding stepOf
 step-leads h f ss os b byte = go (leb byteLimit (h .bytes)) refl
   where
     go : (t : Bool) → leb byteLimit (h .bytes) ≡ t
-        → Leads h (pick t (Broken 16 0) (pick (eqb (h .bars) 0) (startOf h b) (pick (ltb (h .fields) (h .bars)) (pastOf h b) (inFieldOf h ss os b))))
+        → Leads h (pick t (Broken 16 0)
+        (pick (eqb (h .bars) 0) (startOf h b) (pick (ltb (h .fields) (h .bars)) (pastOf h b) (inFieldOf h ss os b))))
     go true e = stops {rule = 16} {field = 0} (omega arith) (omega arith) (omega arith)
     go false e = line-leads h f (leb-false _ _ e) ss os b byte

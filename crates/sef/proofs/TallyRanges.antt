@@ -65,7 +65,9 @@ pub tally-next : (h : Hot) (n b : ℕ) (t : Tally) (m : ℕ) → TallyFit t m �
 unfolding countsWith stampsWith occurrencesWith
 tally-next h n b t m f le =
     record {
-      counts = below-next m (h .row) _ (eqb b LF) (t .counts) (f .counts) (omega (arith, entry-le m (h .row) (t .counts) (f .counts)));
+      counts =
+          below-next m (h .row) _ (eqb b LF) (t .counts) (f .counts)
+          (omega (arith, entry-le m (h .row) (t .counts) (f .counts)));
       stamps = below-next m (h .row) n (eqb b LF) (t .stamps) (f .stamps) le;
       occurrences =
           below-next m (h .row) _ (eqb b LF) (t .occurrences) (f .occurrences)

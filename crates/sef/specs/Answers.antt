@@ -9,7 +9,8 @@ use Rattle.sef.specs.declared.answers.FinalAnswer.the-variants as Final
 use Rattle.sef.specs.declared.answers.ReportAnswer.{ReportAnswer}
 use Rattle.sef.specs.declared.answers.ReportAnswer.the-variants as Report
 
--- "`refusal` is the number, 0 if none; `line` and `field` are the place, 0 if accepted; `lines` is lines ended; `bytes` is bytes judged"
+-- "`refusal` is the number, 0 if none; `line` and `field` are the place, 0 if accepted; `lines` is lines ended; `bytes` is bytes
+-- judged"
 abbrev pub numbers : ℕ → ℕ → ℕ → ℕ → ℕ → Numbers
 numbers refusal line field lines bytes =
     record { refusal = refusal; line = line; field = field; lines = lines; bytes = bytes }

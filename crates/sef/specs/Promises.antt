@@ -1,5 +1,5 @@
--- What the public calls promise: exactly what comes back, at every state; that a state in range gives a state in range; and after calls
--- from a fresh start, what the rules say of the bytes joined so far.
+-- What the public calls promise: exactly what comes back, at every state; that a state in range gives a state in range; and after
+-- calls from a fresh start, what the rules say of the bytes joined so far.
 use mathlib.Core.Bool.{true}
 use mathlib.Core.Path.{_≡_}
 use mathlib.Core.List.{List, [], _++_}
@@ -23,7 +23,8 @@ AllBytes piece = (k : ℕ) → getD piece k 0 < 256
 -- the state after pieces whose bytes, joined, are the file so far: before finish, and after it
 pub data Reached : List ℕ → State → Type 0 where
   start : Reached [] fresh
-  more : {file : List ℕ} {s : State} → Reached file s → (piece : List ℕ) → AllBytes piece → Reached (file ++ piece) (checkOf s piece .state)
+  more : {file : List ℕ} {s : State} → Reached file s → (piece : List ℕ) → AllBytes piece
+      → Reached (file ++ piece) (checkOf s piece .state)
 
 pub data Closed : List ℕ → State → Type 0 where
   done : {file : List ℕ} {s : State} → Reached file s → Closed file (finishOf s .state)
@@ -43,8 +44,8 @@ pub record Finishes (s : State) (r : Finished) : Type 0 where
   pub joined : (file : List ℕ) → Reached file s → finallySaid (r .answer) ≡ finalOf file
   pub kept : (file : List ℕ) → Reached file s → Closed file (r .state)
 
--- A state given back by calls from a fresh start, whose pieces joined are the file: "The report may be asked at any time, also after
--- refusal or finish".
+-- A state given back by calls from a fresh start, whose pieces joined are the file: "The report may be asked at any time, also
+-- after refusal or finish".
 abbrev pub Given : List ℕ → State → Type 0
 Given file s = Reached file s ⊎ Closed file s
 

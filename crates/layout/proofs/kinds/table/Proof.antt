@@ -9,7 +9,8 @@ use Rattle.layout.proofs.kinds.table.Statement.{statement}
 use Rattle.layout.proofs.kinds.table.Tie as tie
 
 returns : tie.Need-returns
-unfolding packedKinds flatKinds joinedParts kindNumber kindsOf sheetOr sheets isOpening isClosing fields code listed rowTable textNumber codeNumber bytes
+unfolding packedKinds flatKinds joinedParts kindNumber kindsOf sheetOr sheets
+    isOpening isClosing fields code listed rowTable textNumber codeNumber bytes
 returns c = refl
 
 pub table-spec : {M : Type 1} → statement M

@@ -25,7 +25,8 @@ returns c =
     let start = c .before .before .before .before .before in
     let stamp = entryOf (start .args .stamps .now) in
     let above = c .before .before .before .entry .ensures ∙ ap stamp (c .before .before .before .before .parent-at .ensures) in
-    rw (lt-ltb (stamp (parent (start .args .r))) (stamp (start .args .r)) (omega (arith, above, c .before .before .entry2 .ensures)))
+    let own = c .before .before .entry2 .ensures in
+    rw (lt-ltb (stamp (parent (start .args .r))) (stamp (start .args .r)) (omega (arith, above, own)))
     (c .entry3 .ensures)
 
 returns-2 : tie.Need-returns-2

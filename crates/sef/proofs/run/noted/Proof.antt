@@ -27,7 +27,8 @@ put-requires-2 c κs = search needs
 add-put-2 : tie.Need-add-put-2
 add-put-2 c =
     let start = c .before .before .before .before .before .before .before .before .before .before .before in
-    omega (arith, used-le _ (start .args .h .row) (start .args .stamps .now) (start .args .occurrences .now) (start .pre .1 .tally .occurrences))
+    let args = start .args in
+    omega (arith, used-le _ (args .h .row) (args .stamps .now) (args .occurrences .now) (start .pre .1 .tally .occurrences))
 
 put-requires-3 : tie.Need-put-requires-3
 put-requires-3 c κs = search needs
