@@ -5,28 +5,28 @@ ghost use Rattle.rules.specs.Fields.{isDigit};
 ghost use Rattle.field.specs.Streaming.{FieldFit, cap, emptyField, codeWith, valueWith, digitWith, matches, textWith};
 ghost use Rattle.field.specs.Streaming.{commaFits, decimalsWith, decimalWith, isPlain, isFixedClass, fixedText, withByte};
 
-// The classes of kinds: a kind's number is its class plus CLASSES times its size.
-pub const CLASSES: u64 = layout::kinds::SIZE as u64;
+// The classes of kinds: a kind's number is its class plus SIZE_UNIT times its size.
+pub const SIZE_UNIT: u64 = layout::kinds::SIZE_UNIT as u64;
 
-pub const FREE: u64 = layout::kinds::CLASS_FREE as u64;
+pub const CLASS_FREE: u64 = layout::kinds::CLASS_FREE as u64;
 
-pub const CODE: u64 = layout::kinds::CLASS_CODE as u64;
+pub const CLASS_CODE: u64 = layout::kinds::CLASS_CODE as u64;
 
-pub const TEXT: u64 = layout::kinds::CLASS_C as u64;
+pub const CLASS_C: u64 = layout::kinds::CLASS_C as u64;
 
-pub const DIGITS: u64 = layout::kinds::CLASS_N as u64;
+pub const CLASS_N: u64 = layout::kinds::CLASS_N as u64;
 
-pub const DECIMALS: u64 = layout::kinds::CLASS_DECIMALS as u64;
+pub const CLASS_DECIMALS: u64 = layout::kinds::CLASS_DECIMALS as u64;
 
-pub const DATE: u64 = layout::kinds::CLASS_DATE as u64;
+pub const CLASS_DATE: u64 = layout::kinds::CLASS_DATE as u64;
 
-pub const LFPD: u64 = layout::kinds::CLASS_LFPD as u64;
+pub const CLASS_LFPD: u64 = layout::kinds::CLASS_LFPD as u64;
 
-pub const BRASIL: u64 = layout::kinds::CLASS_BRASIL as u64;
+pub const CLASS_BRASIL: u64 = layout::kinds::CLASS_BRASIL as u64;
 
-pub const OPENS: u64 = layout::kinds::CLASS_OPENS as u64;
+pub const CLASS_OPENS: u64 = layout::kinds::CLASS_OPENS as u64;
 
-pub const COUNT: u64 = layout::kinds::CLASS_COUNT as u64;
+pub const CLASS_COUNT: u64 = layout::kinds::CLASS_COUNT as u64;
 
 const COMMA: u8 = 44;
 
@@ -134,7 +134,7 @@ fn fixed_with(class: u64, f: Field, b: u8) -> Field
     requires { ⌜ FieldFit f ⌝ }
     ensures { λ r. ⌜ r ≡ textWith (fixedText class) f b ⌝ }
 {
-    if class == LFPD {
+    if class == CLASS_LFPD {
         return text_with(b"LFPD", f, b);
     }
     text_with(b"Brasil", f, b)
@@ -193,14 +193,14 @@ fn decimal_with(f: Field, b: u8) -> Field
 fn is_plain(class: u64) -> bool
     ensures { λ r. ⌜ r ≡ isPlain class ⌝ }
 {
-    class == FREE || class == TEXT
+    class == CLASS_FREE || class == CLASS_C
 }
 
 // Of a fixed text each byte is asked.
 pub fn is_fixed_class(class: u64) -> bool
     ensures { λ r. ⌜ r ≡ isFixedClass class ⌝ }
 {
-    class == LFPD || class == BRASIL
+    class == CLASS_LFPD || class == CLASS_BRASIL
 }
 
 // One more byte of a field of this kind.
@@ -208,7 +208,7 @@ pub fn with_byte(kind: u64, f: Field, b: u8) -> Field
     requires { ⌜ FieldFit f ⌝ }
     ensures { λ r. ⌜ r ≡ withByte kind f b ⌝ }
 {
-    let class = kind % CLASSES;
+    let class = kind % SIZE_UNIT;
     if is_plain(class) {
         return Field {
             length: f.length + 1,
@@ -216,10 +216,10 @@ pub fn with_byte(kind: u64, f: Field, b: u8) -> Field
             value: f.value,
         };
     }
-    if class == CODE {
+    if class == CLASS_CODE {
         return code_with(f, b);
     }
-    if class == DECIMALS {
+    if class == CLASS_DECIMALS {
         return decimal_with(f, b);
     }
     if is_fixed_class(class) {

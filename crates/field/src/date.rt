@@ -2,7 +2,7 @@
 ghost use mathlib.Core.Path.{_≡_};
 ghost use Rattle.rules.specs.Fields.{isDate, isLeapYear, daysOf};
 
-// The days of each month, from 1; February's are patched in a leap year.
+// The days of each month, from 1. February's are not read from here: they go by the year.
 const DAYS: [u64; 13] = [0, 31, 28, 31, 30, 31, 30, 31, 31, 30, 31, 30, 31];
 
 const FEBRUARY: u64 = 2;

@@ -2,14 +2,14 @@
 ghost use mathlib.Core.Path.{_≡_};
 ghost use Rattle.field.specs.Streaming.{emptyFault, rightForm, isExact, rightSize, contentFault, numberFault, isFixed};
 ghost use Rattle.field.specs.Streaming.{textFault, isTextClass, faultOf};
-use crate::bytes::CLASSES;
-use crate::bytes::COUNT;
-use crate::bytes::DATE;
-use crate::bytes::DECIMALS;
-use crate::bytes::DIGITS;
+use crate::bytes::SIZE_UNIT;
+use crate::bytes::CLASS_COUNT;
+use crate::bytes::CLASS_DATE;
+use crate::bytes::CLASS_DECIMALS;
+use crate::bytes::CLASS_N;
 use crate::bytes::Field;
-use crate::bytes::OPENS;
-use crate::bytes::TEXT;
+use crate::bytes::CLASS_OPENS;
+use crate::bytes::CLASS_C;
 use crate::bytes::is_fixed_class;
 use crate::date::is_date;
 
@@ -25,10 +25,10 @@ const UNTRUE_COUNT: u64 = 13;
 fn empty_fault(class: u64) -> u64
     ensures { λ r. ⌜ r ≡ emptyFault class ⌝ }
 {
-    if class == OPENS {
+    if class == CLASS_OPENS {
         return WRONG_CONTENT;
     }
-    if class == COUNT {
+    if class == CLASS_COUNT {
         return UNTRUE_COUNT;
     }
     0
@@ -40,7 +40,7 @@ fn right_form(class: u64, size: u64, f: Field) -> bool
     if f.wrong != 0 {
         return false;
     }
-    if class != DECIMALS {
+    if class != CLASS_DECIMALS {
         return true;
     }
     if f.value == 0 {
@@ -52,10 +52,10 @@ fn right_form(class: u64, size: u64, f: Field) -> bool
 fn is_exact(class: u64) -> bool
     ensures { λ r. ⌜ r ≡ isExact class ⌝ }
 {
-    if class == DIGITS {
+    if class == CLASS_N {
         return true;
     }
-    class == DATE || class == OPENS
+    class == CLASS_DATE || class == CLASS_OPENS
 }
 
 fn right_size(class: u64, size: u64, length: u64) -> bool
@@ -70,13 +70,13 @@ fn right_size(class: u64, size: u64, length: u64) -> bool
 fn content_fault(class: u64, value: u64, due: u64) -> u64
     ensures { λ r. ⌜ r ≡ contentFault class value due ⌝ }
 {
-    if class == DATE {
+    if class == CLASS_DATE {
         return if is_date(value) { 0 } else { WRONG_CONTENT };
     }
-    if class == OPENS {
+    if class == CLASS_OPENS {
         return if value <= 1 { 0 } else { WRONG_CONTENT };
     }
-    if class == COUNT {
+    if class == CLASS_COUNT {
         return if value == due { 0 } else { UNTRUE_COUNT };
     }
     0
@@ -112,7 +112,7 @@ fn text_fault(class: u64, size: u64, f: Field) -> u64
     if size < f.length {
         return WRONG_SIZE;
     }
-    if class == TEXT {
+    if class == CLASS_C {
         return 0;
     }
     if is_fixed(f, size) {
@@ -124,16 +124,16 @@ fn text_fault(class: u64, size: u64, f: Field) -> u64
 fn is_text_class(class: u64) -> bool
     ensures { λ r. ⌜ r ≡ isTextClass class ⌝ }
 {
-    class == TEXT || is_fixed_class(class)
+    class == CLASS_C || is_fixed_class(class)
 }
 
 // The bar after a field of this kind; `due` is what a count must state.
 pub fn fault(kind: u64, f: Field, due: u64) -> u64
     ensures { λ r. ⌜ r ≡ faultOf kind f due ⌝ }
 {
-    let class = kind % CLASSES;
-    let size = kind / CLASSES;
-    if class < TEXT {
+    let class = kind % SIZE_UNIT;
+    let size = kind / SIZE_UNIT;
+    if class < CLASS_C {
         return 0;
     }
     if is_text_class(class) {

@@ -1,4 +1,4 @@
 // One field as it streams through, byte by byte, in constant space.
 pub mod bytes;
-pub mod date;
+mod date;
 pub mod fault;

@@ -13,14 +13,14 @@ use lib.ListN.{length, getD, List·getD-eq-default}
 use borrow.Author.Tests.{ne-eqb}
 use Rattle.layout.specs.Text.{bytes, codeNumber, textNumber}
 use Rattle.layout.specs.Rows.{rowTable, rowCount, listed, code, fields, mostFields, isOpening, isClosing, row9999}
-use Rattle.layout.specs.Kinds.{Kind, codeField, free, opens, sheets, sheetOr, kindsOf, kind, fieldCount, start}
+use Rattle.layout.specs.Kinds.{Kind, codeField, free, opens, sheets, sheetOr, kindsOf, kind, fieldCount, rowStart}
 use Rattle.layout.specs.Packed.{kindNumber, mostKind, flatKinds}
 use Rattle.layout.proofs.Below.{below, below-at, below-equal, agree, below-same}
 use Rattle.layout.proofs.RowLaws.{listed-none, fields-most}
 use Rattle.layout.proofs.ListLaws.{Starts, part-ends, joined-at}
 
-field-count : start rowCount ≡ fieldCount
-unfolding start fields listed rowTable
+field-count : rowStart rowCount ≡ fieldCount
+unfolding rowStart fields listed rowTable
 field-count = refl
 
 -- the kinds of a row are as many as its fields
@@ -31,19 +31,19 @@ fit = tt
 parts-fit : (r : ℕ) → r < rowCount → length (kindsOf r) ≡ fields r
 parts-fit = below-equal rowCount (λ r. length (kindsOf r)) fields fit
 
-starts : Starts rowCount kindsOf start
-unfolding start
-starts r h = ap (λ n. start r + n) (sym (parts-fit r h))
+starts : Starts rowCount kindsOf rowStart
+unfolding rowStart
+starts r h = ap (λ n. rowStart r + n) (sym (parts-fit r h))
 
 -- the fields of a row end where the next row starts, within the table
-pub fields-within : (r : ℕ) → r < rowCount → start r + fields r ≤ fieldCount
-fields-within r h = rw (← parts-fit r h, ← field-count) (part-ends rowCount kindsOf start starts r h)
+pub fields-within : (r : ℕ) → r < rowCount → rowStart r + fields r ≤ fieldCount
+fields-within r h = rw (← parts-fit r h, ← field-count) (part-ends rowCount kindsOf rowStart starts r h)
 
-pub flat-kind : (r n : ℕ) → r < rowCount → 1 ≤ n → n ≤ fields r → getD flatKinds (start r + (n - 1)) free ≡ kind r n
-unfolding flatKinds kind start
+pub flat-kind : (r n : ℕ) → r < rowCount → 1 ≤ n → n ≤ fields r → getD flatKinds (rowStart r + (n - 1)) free ≡ kind r n
+unfolding flatKinds kind rowStart
 flat-kind r n h one le =
     let len = parts-fit r h in
-    joined-at rowCount kindsOf start starts r (n - 1) (start r + (n - 1)) free h (omega arith) (zero-add (start r + (n - 1)))
+    joined-at rowCount kindsOf rowStart starts r (n - 1) (rowStart r + (n - 1)) free h (omega arith) (zero-add (rowStart r + (n - 1)))
 
 -- past a row's fields none is to come
 pub kind-past : (r n : ℕ) → r < rowCount → fields r < n → kind r n ≡ free

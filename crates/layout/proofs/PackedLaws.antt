@@ -6,7 +6,7 @@ use native.Mathlib.Nat.{le-of-lt}
 use native.Mathlib.Omega.{arith}
 use lib.ListN.{getD, List·getD-map}
 use Rattle.layout.specs.Rows.{rowTable, rowCount, noRow, listed, code, fields, level, occurrence, parent}
-use Rattle.layout.specs.Kinds.{free, kind, fieldCount, start}
+use Rattle.layout.specs.Kinds.{free, kind, fieldCount, rowStart}
 use Rattle.layout.specs.Packed.{fourNumbers, rowNumbers, parentColumn, startColumn, kindNumber, flatKinds, packedKinds}
 use Rattle.layout.proofs.ListLaws.{with-default-at, map-at}
 use Rattle.layout.proofs.TabulateLaws.{tabulate-at}
@@ -41,14 +41,14 @@ pub parent-entry : (r : ℕ) → r ≤ rowCount → getD parentColumn r 0 ≡ pa
 unfolding parentColumn
 parent-entry r h = tabulate-at (suc rowCount) parent r 0 (suc-le-suc h)
 
-pub start-entry : (r : ℕ) → r ≤ rowCount → getD startColumn r 0 ≡ start r
+pub start-entry : (r : ℕ) → r ≤ rowCount → getD startColumn r 0 ≡ rowStart r
 unfolding startColumn
-start-entry r h = tabulate-at (suc rowCount) start r 0 (suc-le-suc h)
+start-entry r h = tabulate-at (suc rowCount) rowStart r 0 (suc-le-suc h)
 
 -- the kinds
-pub kind-entry : (r n : ℕ) → r < rowCount → 1 ≤ n → n ≤ fields r → getD packedKinds (start r + (n - 1)) 0 ≡ kindNumber (kind r n)
+pub kind-entry : (r n : ℕ) → r < rowCount → 1 ≤ n → n ≤ fields r → getD packedKinds (rowStart r + (n - 1)) 0 ≡ kindNumber (kind r n)
 unfolding packedKinds kindNumber
-kind-entry r n h one le = List·getD-map kindNumber flatKinds (start r + (n - 1)) free ∙ ap kindNumber (flat-kind r n h one le)
+kind-entry r n h one le = List·getD-map kindNumber flatKinds (rowStart r + (n - 1)) free ∙ ap kindNumber (flat-kind r n h one le)
 
 -- a field's kind stands within the table
 pub kind-within : (starts : List ℕ) (r n : ℕ) → starts ≡ startColumn → r < rowCount → 1 ≤ n → n ≤ fields r

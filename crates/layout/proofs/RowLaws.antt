@@ -1,4 +1,4 @@
--- Rules of the table of rows: how many they are, how many fields they have, and what is known past them.
+-- Rules of the table of rows: how many they are, those with a name, how many fields they have, and what is known past them.
 use mathlib.Core.Path.{_≡_, refl, ap}
 use mathlib.Core.Bool.{Bool, true, false}
 use Prim.Native.Nat.{ℕ, zero, suc, _<_, _≤_, suc-le-suc}
@@ -6,7 +6,9 @@ use native.Mathlib.Nat.{le-refl}
 use native.Mathlib.Omega.{arith}
 use lib.ListN.{length, List·getD-eq-default}
 use Rattle.layout.specs.Pick.{pick}
-use Rattle.layout.specs.Rows.{rowTable, rowCount, noRow, listed, fields, mostFields, level, lastAmong}
+use Rattle.layout.specs.Text.{textNumber}
+use Rattle.layout.specs.Rows.{rowTable, rowCount, noRow, listed, code, fields, mostFields, level, lastAmong}
+use Rattle.layout.specs.Rows.{row0000, row0001, row9990, row9999}
 use Rattle.layout.proofs.Below.{below, below-most}
 
 pub row-count : length rowTable ≡ rowCount
@@ -16,6 +18,13 @@ row-count = refl
 pub listed-none : (r : ℕ) → rowCount ≤ r → listed r ≡ noRow
 unfolding listed
 listed-none r h = List·getD-eq-default rowTable noRow (rw row-count h)
+
+-- the rows with a name have these codes
+pub named-rows :
+    (code row0000 ≡ textNumber "0000") × (code row0001 ≡ textNumber "0001") × (code row9990 ≡ textNumber "9990")
+    × (code row9999 ≡ textNumber "9999")
+unfolding code listed rowTable
+named-rows = (refl, refl, refl, refl)
 
 -- every row has a field after its code
 pub fields-two : (r : ℕ) → r < rowCount → 2 ≤ fields r

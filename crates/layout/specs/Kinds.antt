@@ -83,6 +83,6 @@ abbrev pub fieldCount : ℕ
 fieldCount = 995
 
 -- row starts: the number of the fields of the rows before row r
-unfoldable pub start : ℕ → ℕ
-start zero = 0
-start (suc r) = start r + fields r
+unfoldable pub rowStart : ℕ → ℕ
+rowStart zero = 0
+rowStart (suc r) = rowStart r + fields r

@@ -1,11 +1,12 @@
 -- How the source's tables hold the definitions, as lists of numbers.
 use mathlib.Core.List.{List, [], _∷_, _++_, map}
-use Prim.Native.Nat.{ℕ, zero, suc, _+_, _*_, _%_}
+use Prim.Native.Nat.{ℕ, zero, suc, _+_, _-_, _*_, _%_}
 use lib.ListN.{replicate, set}
 use Rattle.layout.specs.Lists.{tabulate, joinedParts}
 use Rattle.layout.specs.Text.{textNumber}
 use Rattle.layout.specs.Rows.{Listed, rowTable, noRow, rowCount, none, code, parent}
-use Rattle.layout.specs.Kinds.{Kind, codeField, free, C, N, N-, decimals, date, lfpd, brasil, opens, count, kindsOf, start}
+use Rattle.layout.specs.Kinds.{Kind, codeField, free, C, N, N-, decimals, date, lfpd, brasil, opens, count}
+use Rattle.layout.specs.Kinds.{kindsOf, rowStart}
 
 -- "constant table of the 98 rows (code, fields, level, occurrence)": these four numbers a row, and one row more for "no row"
 abbrev pub fourNumbers : Listed → List ℕ
@@ -23,7 +24,7 @@ unfoldable pub parentColumn : List ℕ
 parentColumn = column parent
 
 unfoldable pub startColumn : List ℕ
-startColumn = column start
+startColumn = column rowStart
 
 -- the classes of kinds
 abbrev pub freeClass : ℕ
@@ -78,7 +79,7 @@ kindNumber count = countClass
 
 -- a class is below sizeUnit, and a size at most 255: that of a C without a size
 abbrev pub mostKind : ℕ
-mostKind = 15 + sizeUnit * 255
+mostKind = sizeUnit * 256 - 1
 
 -- "flat constant table of 995 field kinds, indexed through row starts"
 unfoldable pub flatKinds : List Kind

@@ -209,9 +209,12 @@ isOpening r = eqb (code r % 16777216) (textNumber "001")
 unfoldable pub isClosing : ℕ → Bool
 isClosing r = eqb (code r % 16777216) (textNumber "990")
 
--- the lines that stand before and after all blocks' data: 0000, 9990 and 9999
+-- the rows with a name, by their place in the table: 0000, 0001, 9990 and 9999 (named-rows, proofs/RowLaws.antt)
 abbrev pub row0000 : ℕ
 row0000 = 0
+
+abbrev pub row0001 : ℕ
+row0001 = 1
 
 abbrev pub row9990 : ℕ
 row9990 = rowCount - 2

@@ -9,11 +9,11 @@ use super::rows::ENTRIES;
 // The number of fields of all rows.
 pub const FIELDS: usize = 995;
 
-// A kind's number is its class plus SIZE times its size; where nothing is asked of the size, that is 0.
-pub const SIZE: u32 = 16;
+// A kind's number is its class plus SIZE_UNIT times its size; where nothing is asked of the size, that is 0.
+pub const SIZE_UNIT: u32 = 16;
 
-// A class is below SIZE, and a size at most 255.
-pub const KIND_MOST: u64 = SIZE as u64 * 256 - 1;
+// A class is below SIZE_UNIT, and a size at most 255.
+pub const KIND_MOST: u64 = SIZE_UNIT as u64 * 256 - 1;
 
 // The classes. Any allowed bytes: the fields of a line that is not typed.
 pub const CLASS_FREE: u32 = 0;
@@ -27,7 +27,7 @@ pub const CLASS_C: u32 = 2;
 // N: digits, exactly so many; and N without a size.
 pub const CLASS_N: u32 = 3;
 
-pub const CLASS_N_ANY: u32 = 4;
+const CLASS_N_ANY: u32 = 4;
 
 // N with decimals: its size is their number.
 pub const CLASS_DECIMALS: u32 = 5;
@@ -51,45 +51,45 @@ const FREE: u32 = CLASS_FREE;
 
 const CODE: u32 = CLASS_CODE;
 
-const C0: u32 = CLASS_C + SIZE * 0;
+const C0: u32 = CLASS_C + SIZE_UNIT * 0;
 
-const C2: u32 = CLASS_C + SIZE * 2;
+const C2: u32 = CLASS_C + SIZE_UNIT * 2;
 
-const C5: u32 = CLASS_C + SIZE * 5;
+const C5: u32 = CLASS_C + SIZE_UNIT * 5;
 
-const C9: u32 = CLASS_C + SIZE * 9;
+const C9: u32 = CLASS_C + SIZE_UNIT * 9;
 
-const C10: u32 = CLASS_C + SIZE * 10;
+const C10: u32 = CLASS_C + SIZE_UNIT * 10;
 
-const C255: u32 = CLASS_C + SIZE * 255;
+const C255: u32 = CLASS_C + SIZE_UNIT * 255;
 
-const N1: u32 = CLASS_N + SIZE * 1;
+const N1: u32 = CLASS_N + SIZE_UNIT * 1;
 
-const N2: u32 = CLASS_N + SIZE * 2;
+const N2: u32 = CLASS_N + SIZE_UNIT * 2;
 
-const N3: u32 = CLASS_N + SIZE * 3;
+const N3: u32 = CLASS_N + SIZE_UNIT * 3;
 
-const N4: u32 = CLASS_N + SIZE * 4;
+const N4: u32 = CLASS_N + SIZE_UNIT * 4;
 
-const N5: u32 = CLASS_N + SIZE * 5;
+const N5: u32 = CLASS_N + SIZE_UNIT * 5;
 
-const N7: u32 = CLASS_N + SIZE * 7;
+const N7: u32 = CLASS_N + SIZE_UNIT * 7;
 
-const N8: u32 = CLASS_N + SIZE * 8;
+const N8: u32 = CLASS_N + SIZE_UNIT * 8;
 
-const N11: u32 = CLASS_N + SIZE * 11;
+const N11: u32 = CLASS_N + SIZE_UNIT * 11;
 
-const N14: u32 = CLASS_N + SIZE * 14;
+const N14: u32 = CLASS_N + SIZE_UNIT * 14;
 
 const N_ANY: u32 = CLASS_N_ANY;
 
-const DATE: u32 = CLASS_DATE + SIZE * 8;
+const DATE: u32 = CLASS_DATE + SIZE_UNIT * 8;
 
-const LFPD: u32 = CLASS_LFPD + SIZE * 4;
+const LFPD: u32 = CLASS_LFPD + SIZE_UNIT * 4;
 
-const BRASIL: u32 = CLASS_BRASIL + SIZE * 6;
+const BRASIL: u32 = CLASS_BRASIL + SIZE_UNIT * 6;
 
-const OPENS: u32 = CLASS_OPENS + SIZE * 1;
+const OPENS: u32 = CLASS_OPENS + SIZE_UNIT * 1;
 
 const COUNT: u32 = CLASS_COUNT;
 

@@ -17,16 +17,16 @@ pub const FIELDS_MOST: u64 = 30;
 pub const ANY: u64 = 0;
 
 // Occurrence P: one for each period or date.
-pub const PERIOD: u64 = 1000;
+const PERIOD: u64 = 1000;
 
 // Where each number of a row stands.
-const CODE: usize = 0;
+const CODE_COLUMN: usize = 0;
 
-const FIELDS: usize = 1;
+const FIELDS_COLUMN: usize = 1;
 
-const LEVEL: usize = 2;
+const LEVEL_COLUMN: usize = 2;
 
-const OCCURRENCE: usize = 3;
+const OCCURRENCE_COLUMN: usize = 3;
 
 // The whole table. It is mentioned here alone: a caller reads it once and hands it on.
 pub fn table() -> [[u64; 4]; ENTRIES]
@@ -39,28 +39,28 @@ pub fn code_at(rows: &[[u64; 4]; ENTRIES], r: usize) -> u64
     requires { ⌜ (now rows ≡ rowNumbers) × (r ≤ rowCount) ⌝ }
     ensures { λ c. ⌜ c ≡ code r ⌝ }
 {
-    rows[r][CODE]
+    rows[r][CODE_COLUMN]
 }
 
 pub fn fields_at(rows: &[[u64; 4]; ENTRIES], r: usize) -> u64
     requires { ⌜ (now rows ≡ rowNumbers) × (r ≤ rowCount) ⌝ }
     ensures { λ n. ⌜ n ≡ fields r ⌝ }
 {
-    rows[r][FIELDS]
+    rows[r][FIELDS_COLUMN]
 }
 
 pub fn level_at(rows: &[[u64; 4]; ENTRIES], r: usize) -> u64
     requires { ⌜ (now rows ≡ rowNumbers) × (r ≤ rowCount) ⌝ }
     ensures { λ l. ⌜ l ≡ level r ⌝ }
 {
-    rows[r][LEVEL]
+    rows[r][LEVEL_COLUMN]
 }
 
 fn occurrence_at(rows: &[[u64; 4]; ENTRIES], r: usize) -> u64
     requires { ⌜ (now rows ≡ rowNumbers) × (r ≤ rowCount) ⌝ }
     ensures { λ n. ⌜ n ≡ occurrence r ⌝ }
 {
-    rows[r][OCCURRENCE]
+    rows[r][OCCURRENCE_COLUMN]
 }
 
 // How many lines of the row may stand under one parent line: P is read as N at level 2 and else as 1.

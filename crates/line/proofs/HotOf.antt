@@ -24,13 +24,13 @@ use Rattle.rules.proofs.ByteLaws.{lines-on, rows-on, bars-on, word-on, field-on
 use Rattle.rules.proofs.ByteLaws.{field-bar, row-code, row-later, lines-lf, rows-lf, bars-lf, word-lf, row-lf, row-early}
 use Rattle.rules.proofs.BlockLaws.{since}
 use Rattle.field.specs.Streaming.{fieldAfter}
-use Rattle.line.specs.Machine.{data0, data1, grownOf, movedOf, endedOf, sinceOf, saysOf}
+use Rattle.line.specs.Machine.{withData, withoutData, grownOf, movedOf, endedOf, sinceOf, saysOf}
 use Rattle.line.specs.declared.hot.Hot.{Hot}
 use Rattle.line.proofs.KindLaws.{early-kind}
 
 -- what a line says: of an opening, whether its block has data; of any other line nothing
 unfoldable pub lineSays : List ℕ → ℕ
-lineSays line = pick (isOpening (rowOf line)) (pick (isText "0" (field 2 line)) data0 data1) 0
+lineSays line = pick (isOpening (rowOf line)) (pick (isText "0" (field 2 line)) withData withoutData) 0
 
 unfoldable pub lastSays : List (List ℕ) → ℕ
 lastSays [] = 0
@@ -130,11 +130,11 @@ module _ (seen : List ℕ) where
   -- after field 2: what the line says is known
   hand-says-bar : lineSays (lineAtHand (bar ∷ seen))
       ≡ pick (isOpening (rowAtHand (bar ∷ seen)))
-      (pick (isText "0" (pick (eqb (bars seen) 2) (word seen) (field 2 (lineAtHand seen)))) data0 data1) 0
+      (pick (isText "0" (pick (eqb (bars seen) 2) (word seen) (field 2 (lineAtHand seen)))) withData withoutData) 0
   unfolding lineSays rowAtHand
   hand-says-bar = rw (field-bar seen 2)
 
-  hand-says : pick (isOpening (rowAtHand seen)) (pick (isText "0" (field 2 (lineAtHand seen))) data0 data1) 0
+  hand-says : pick (isOpening (rowAtHand seen)) (pick (isText "0" (field 2 (lineAtHand seen))) withData withoutData) 0
       ≡ lineSays (lineAtHand seen)
   unfolding lineSays rowAtHand
   hand-says = refl
@@ -152,9 +152,9 @@ module _ (seen : List ℕ) where
       where
         go : Dec (bars seen ≡ 2)
             → pick (isOpening (rowAtHand seen))
-            (pick (isText "0" (pick (eqb (bars seen) 2) (word seen) (field 2 (lineAtHand seen)))) data0 data1) 0
+            (pick (isText "0" (pick (eqb (bars seen) 2) (word seen) (field 2 (lineAtHand seen)))) withData withoutData) 0
             ≡ pick (eqb (bars seen) 2 && isOpening (rowAtHand seen))
-            (pick (eqb (hotOf seen .field .value) 0) data0 data1) (says seen)
+            (pick (eqb (hotOf seen .field .value) 0) withData withoutData) (says seen)
         go (yes e) =
             rw (eq-eqb (bars seen) 2 e, says-two seen e)
             (split (isOpening (rowAtHand seen)) (λ o. rw (o, told e o)) (λ o. rw o))

@@ -20,7 +20,7 @@ use Rattle.rules.proofs.OpenLaws.{hangs-climb, ends-last}
 use Rattle.rules.proofs.OccurrenceLaws.{stamps, occurrences, stampAt, stamped, occurred, stamps-at}
 use Rattle.rules.proofs.OccurrenceLaws.{occurrences-at, under-stamps, parent-other}
 use Rattle.rules.proofs.StatedLaws.{Opened}
-use Rattle.line.specs.Machine.{data0, data1, startsOf, endsOf, hangsOf, standsOf, entryOf, usedOf, roomOf, misplacedOf}
+use Rattle.line.specs.Machine.{withData, withoutData, startsOf, endsOf, hangsOf, standsOf, entryOf, usedOf, roomOf, misplacedOf}
 use Rattle.line.proofs.HotOf.{says, lineSays, lastSays, says-early}
 
 -- 4: the row of the last line tells where a line can stand
@@ -47,14 +47,14 @@ one-text (b ∷ c ∷ w) e = and-false (eqb b 49)
 
 -- an opening's field 2, which is one of them
 says-text : (w : List ℕ) → (isText "0" w || isText "1" w) ≡ true
-    → (eqb (pick (isText "0" w) data0 data1) data0 ≡ isText "0" w) × (eqb (pick (isText "0" w) data0 data1) data1 ≡ isText "1" w)
+    → (eqb (pick (isText "0" w) withData withoutData) withData ≡ isText "0" w) × (eqb (pick (isText "0" w) withData withoutData) withoutData ≡ isText "1" w)
 says-text w e =
     split (isText "0" w)
     (λ t. (rw t, rw (t, one-text w t)))
     (λ t. (rw t, rw t (sym (rw t at e))))
 
 line-says : (line : List ℕ) (before : List (List ℕ)) → Opened (line ∷ before)
-    → (eqb (lineSays line) data0 ≡ openedBy "0" (line ∷ before)) × (eqb (lineSays line) data1 ≡ openedBy "1" (line ∷ before))
+    → (eqb (lineSays line) withData ≡ openedBy "0" (line ∷ before)) × (eqb (lineSays line) withoutData ≡ openedBy "1" (line ∷ before))
 unfolding lineSays openedBy
 line-says line before o =
     split (isOpening (rowOf line))
@@ -62,7 +62,7 @@ line-says line before o =
     (λ t. (rw t, rw t))
 
 last-says : (ls : List (List ℕ)) → Opened ls
-    → (eqb (lastSays ls) data0 ≡ openedBy "0" ls) × (eqb (lastSays ls) data1 ≡ openedBy "1" ls)
+    → (eqb (lastSays ls) withData ≡ openedBy "0" ls) × (eqb (lastSays ls) withoutData ≡ openedBy "1" ls)
 unfolding lastSays
 last-says [] o = unfold openedBy in (refl, refl)
 last-says (line ∷ before) o = line-says line before o

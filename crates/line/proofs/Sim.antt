@@ -12,7 +12,7 @@ use Rattle.layout.specs.Rows.{none, rowCount, fields, isClosing}
 use Rattle.rules.specs.Bytes.{bar, CR, LF, cut, lines, rows, rowAtHand, rowOfWord, bars, word, empty, isEndByte, lineAtHand}
 use Rattle.rules.specs.Order.{canStand, hasRoom, isData}
 use Rattle.rules.specs.Rules.{Fault, clear, breaks, rules, firstBroken, faultBy, fault}
-use Rattle.rules.specs.Rules.{full, finished, inField, rowToBe, openedBy, byteLimit}
+use Rattle.rules.specs.Rules.{full, complete, inField, rowToBe, openedBy, byteLimit}
 use Rattle.rules.proofs.TestLaws.{split, both}
 use Rattle.layout.proofs.RoleLaws.{none-kind}
 use Rattle.layout.proofs.RowLaws.{fields-two}
@@ -20,9 +20,9 @@ use Rattle.rules.proofs.AllRows.{stood-rows}
 use Rattle.rules.proofs.ByteLaws.{lines-on, bars-lf, row-early}
 use Rattle.rules.proofs.FaultLaws.{Place, starts, codes, fills, ends, place, past-fields, in-fields}
 use Rattle.rules.proofs.FaultLaws.{codeFault, fieldFault, byteFault, endFault, fault-start, fault-code}
-use Rattle.rules.proofs.FaultLaws.{fault-field, fault-past, code-in, finished-last}
+use Rattle.rules.proofs.FaultLaws.{fault-field, fault-past, code-in, complete-last}
 use Rattle.rules.proofs.OccurrenceLaws.{stamps, occurrences}
-use Rattle.rules.proofs.CleanLaws.{Clean, clean-clear, clear-unfinished}
+use Rattle.rules.proofs.CleanLaws.{Clean, clean-clear, clear-incomplete}
 use Rattle.rules.proofs.SoundLaws.{Sound, sound, word-row-known}
 use Rattle.rules.proofs.StatedLaws.{opened}
 use Rattle.field.specs.Streaming.{faultOf}
@@ -53,10 +53,10 @@ empty-is seen = ap (λ n. eqb n 0) (length-is (hotOf seen .kind) (word seen)) �
     go (b ∷ w) = unfold empty in ne-eqb (suc (length w)) 0 (λ z. omega arith)
 
 -- At the start of a line.
-start-does : (seen : List ℕ) (b : ℕ) → bars seen ≡ 0 → finished seen ≡ false → Does seen b (startOf (hotOf seen) b)
+start-does : (seen : List ℕ) (b : ℕ) → bars seen ≡ 0 → complete seen ≡ false → Does seen b (startOf (hotOf seen) b)
 unfolding startOf
 start-does seen b e f =
-    rw (sym (finished-last seen) ∙ f, fault-start seen b e)
+    rw (sym (complete-last seen) ∙ f, fault-start seen b e)
     (split (eqb b bar) (λ t. rw (t, eqb-true b bar t, hot-first seen e)) (λ t. rw t))
 
 -- In a field, a byte that is no bar.
@@ -139,15 +139,15 @@ module _ (seen : List ℕ) (b : ℕ) (s : Sound seen) where
       (λ t. rw t (byte-does seen b t)))
 
 -- After 9999's LF no byte passes, so that the file has ended only at the start of a line.
-finished-on : (seen : List ℕ) (b : ℕ) → eqb b LF ≡ false → finished (b ∷ seen) ≡ finished seen
-unfolding finished
+finished-on : (seen : List ℕ) (b : ℕ) → eqb b LF ≡ false → complete (b ∷ seen) ≡ complete seen
+unfolding complete
 finished-on seen b t = rw (lines-on seen b t)
 
-finished-start : (seen : List ℕ) → Clean seen → finished seen ≡ true → bars seen ≡ 0
+finished-start : (seen : List ℕ) → Clean seen → complete seen ≡ true → bars seen ≡ 0
 finished-start [] c f = unfold bars lineAtHand cut in refl
 finished-start (b ∷ seen) c f =
     split (eqb b LF) (λ t. rw (eqb-true b LF t) (bars-lf seen))
-    (λ t. both f (finished-on seen b t ∙ clear-unfinished seen b (clean-clear seen b c)))
+    (λ t. both f (finished-on seen b t ∙ clear-incomplete seen b (clean-clear seen b c)))
 
 -- The step, by where the byte stands.
 module _ (seen : List ℕ) (b : ℕ) (c : Clean seen) where
@@ -159,14 +159,14 @@ module _ (seen : List ℕ) (b : ℕ) (c : Clean seen) where
       pick (eqb (bars seen) 0) (startOf (hotOf seen) b)
       (pick (ltb (fields (rowAtHand seen)) (bars seen)) (pastOf (hotOf seen) b) (inAt seen b s))
 
-  over : finished seen ≡ true → stepAt ≡ Broken 15 0
+  over : complete seen ≡ true → stepAt ≡ Broken 15 0
   unfolding startOf
-  over f = rw (eq-eqb (bars seen) 0 (finished-start seen c f), sym (finished-last seen) ∙ f)
+  over f = rw (eq-eqb (bars seen) 0 (finished-start seen c f), sym (complete-last seen) ∙ f)
 
   in-step : 1 ≤ bars seen → inField seen ≡ true → stepAt ≡ inAt seen b s
   in-step h i = rw (ne-eqb (bars seen) 0 (λ z. omega arith), le-ltb (fields (rowAtHand seen)) (bars seen) (in-fields seen i))
 
-  goes-on : finished seen ≡ false → Does seen b stepAt
+  goes-on : complete seen ≡ false → Does seen b stepAt
   goes-on f = go (place seen)
     where
       go : Place seen → Does seen b stepAt
@@ -182,4 +182,4 @@ module _ (seen : List ℕ) (b : ℕ) (c : Clean seen) where
   unfolding stepOf fault faultBy full
   step-is =
       split (leb byteLimit (length seen)) (λ t. rw t)
-      (λ t. rw t (split (finished seen) (λ f. rw f (over f)) (λ f. rw f (goes-on f))))
+      (λ t. rw t (split (complete seen) (λ f. rw f (over f)) (λ f. rw f (goes-on f))))

@@ -1,4 +1,4 @@
--- What the checker does with one byte, at every state: one definition for each function of the step.
+-- What the checker does with one byte, at every state, after the functions of the step.
 use mathlib.Core.Bool.{Bool, not, _&&_, _||_}
 use mathlib.Core.Path.{_≡_}
 use mathlib.Core.List.{List}
@@ -9,7 +9,7 @@ use Rattle.layout.specs.Pick.{pick}
 use Rattle.layout.specs.Rows.{rowCount, none, anyNumber, level, limit, fields, mostFields, block}
 use Rattle.layout.specs.Rows.{parent, isOpening, isClosing, row0000, row9990, row9999, rowOfCode}
 use Rattle.layout.specs.Kinds.{opens, kind}
-use Rattle.layout.specs.Packed.{rowNumbers, parentColumn, packedKinds, startColumn, slotTable, kindNumber, mostKind}
+use Rattle.layout.specs.Packed.{rowNumbers, parentColumn, packedKinds, startColumn, slotTable, codeClass, kindNumber, mostKind}
 use Rattle.rules.specs.Bytes.{bar, CR, LF, isEndByte}
 use Rattle.rules.specs.Order.{isData}
 use Rattle.layout.specs.Climb.{climb}
@@ -23,12 +23,19 @@ use Rattle.line.specs.declared.step.Step.the-variants.{Next, Broken}
 abbrev pub mostBars : ℕ
 mostBars = mostFields + 1
 
--- what an opening says: 1 for its field 2 being 0, 2 for 1; of any other line 0
-abbrev pub data0 : ℕ
-data0 = 1
+-- before its code has come a line has field 1 alone, of this kind
+abbrev pub codeKind : ℕ
+codeKind = codeClass
 
-abbrev pub data1 : ℕ
-data1 = 2
+abbrev pub codeOnly : ℕ
+codeOnly = 1
+
+-- what an opening says: 1 for its field 2 being 0, 2 for 1; of any other line 0
+abbrev pub withData : ℕ
+withData = 1
+
+abbrev pub withoutData : ℕ
+withoutData = 2
 
 -- what a step may be asked of: the ranges of the stored numbers (docs/STATE.md). The byte that breaks rule 16 is judged too.
 pub record HotFit (h : Hot) : Type 0 where
@@ -36,7 +43,7 @@ pub record HotFit (h : Hot) : Type 0 where
   pub lines : h .lines ≤ h .bytes
   pub last : h .last ≤ rowCount
   pub since : h .since ≤ h .bytes
-  pub says : h .says ≤ data1
+  pub says : h .says ≤ withoutData
   pub bars : h .bars ≤ mostBars
   pub row : h .row ≤ rowCount
   pub fields : h .fields ≤ mostFields
@@ -100,8 +107,8 @@ endedOf h =
       says = h .says;
       bars = 0;
       row = none;
-      fields = 1;
-      kind = 1;
+      fields = codeOnly;
+      kind = codeKind;
       field = emptyField;
     }
 
@@ -133,7 +140,7 @@ unfoldable pub roomOf : List ℕ → List ℕ → ℕ → Bool
 roomOf stamps occurrences r = eqb (limit r) anyNumber || ltb (usedOf stamps occurrences r) (limit r)
 
 unfoldable pub misplacedOf : ℕ → ℕ → Bool
-misplacedOf says r = isData r && eqb says data1 || isClosing r && eqb says data0
+misplacedOf says r = isData r && eqb says withoutData || isClosing r && eqb says withData
 
 -- The bar after field 1.
 unfoldable pub wordRow : Hot → ℕ
@@ -152,7 +159,7 @@ unfoldable pub dueOf : Hot → ℕ
 dueOf h = pick (eqb (h .row) row9999) (h .lines + 1) (h .since + 1 + pick (eqb (block (h .row)) (block row9999)) 1 0)
 
 unfoldable pub saysOf : Hot → ℕ
-saysOf h = pick (eqb (h .kind) (kindNumber opens)) (pick (eqb (h .field .value) 0) data0 data1) (h .says)
+saysOf h = pick (eqb (h .kind) (kindNumber opens)) (pick (eqb (h .field .value) 0) withData withoutData) (h .says)
 
 unfoldable pub fieldBarOf : Hot → ℕ → Step
 fieldBarOf h n =
@@ -180,7 +187,7 @@ pastOf h b =
 unfoldable pub startOf : Hot → ℕ → Step
 startOf h b =
     pick (eqb (h .last) row9999) (Broken 15 0)
-    (pick (eqb b bar) (Next (movedOf h (h .row) (h .fields) 1 (h .says))) (Broken 1 0))
+    (pick (eqb b bar) (Next (movedOf h (h .row) (h .fields) codeKind (h .says))) (Broken 1 0))
 
 unfoldable pub stepOf : Hot → List ℕ → List ℕ → ℕ → Step
 stepOf h stamps occurrences b =

@@ -2,12 +2,13 @@
 ghost use mathlib.Core.Path.{_≡_};
 ghost use Rattle.layout.specs.Packed.{rowNumbers};
 ghost use Rattle.line.specs.Machine.{HotFit, grownOf, movedOf, endedOf, sinceOf};
+use field::bytes::CLASS_CODE;
 use field::bytes::Field;
 use layout::rows::ENTRIES;
 use layout::rows::ROWS;
 
 // The kind of field 1, and how many fields a line has before its row is known.
-pub const CODE_KIND: u64 = 1;
+pub const CODE_KIND: u64 = CLASS_CODE;
 
 pub const CODE_ONLY: u64 = 1;
 
@@ -15,7 +16,8 @@ pub struct Hot {
     // lines ended and bytes judged
     pub lines: u64,
     pub bytes: u64,
-    // the row of the last line ended, the lines since the last closing, and what the line before said as an opening
+    // the row of the last line ended, the lines since the last closing, and what the line before says as an opening; from its code's
+    // bar on, what the line at hand says
     pub last: usize,
     pub since: u64,
     pub says: u64,

@@ -19,10 +19,10 @@ use crate::order::WITHOUT_DATA;
 use crate::order::has_room;
 use crate::order::misplaced;
 use crate::order::stands;
-use field::bytes::CLASSES;
-use field::bytes::COUNT;
-use field::bytes::FREE;
-use field::bytes::OPENS;
+use field::bytes::SIZE_UNIT;
+use field::bytes::CLASS_COUNT;
+use field::bytes::CLASS_FREE;
+use field::bytes::CLASS_OPENS;
 use field::fault::fault;
 use layout::codes::SLOTS;
 use layout::codes::row_of_code;
@@ -73,7 +73,7 @@ const CODE_LENGTH: u64 = 4;
 const LAST_BLOCK: u64 = 6;
 
 // The kind of field 2 of an opening: one digit.
-const OPENS_KIND: u64 = OPENS + CLASSES;
+const OPENS_KIND: u64 = CLASS_OPENS + SIZE_UNIT;
 
 pub enum Step {
     Next(Hot),
@@ -167,10 +167,10 @@ fn found(rows: &[[u64; 4]; ENTRIES], h: Hot) -> u64
     requires { ⌜ now rows ≡ rowNumbers ⌝ }
     ensures { λ n. ⌜ n ≡ faultOf (h .kind) (h .field) (dueOf h) ⌝ }
 {
-    if h.kind == FREE {
+    if h.kind == CLASS_FREE {
         return 0;
     }
-    if h.kind % CLASSES == COUNT {
+    if h.kind % SIZE_UNIT == CLASS_COUNT {
         return fault(h.kind, h.field, due(rows, h));
     }
     fault(h.kind, h.field, 0)

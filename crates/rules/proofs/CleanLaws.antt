@@ -11,9 +11,9 @@ use borrow.Author.Tests.{leb-false}
 use Rattle.layout.specs.Pick.{pick}
 use Rattle.rules.specs.Bytes.{cut, lines, rows}
 use Rattle.rules.specs.Counts.{countsOfRows}
-use Rattle.rules.specs.Rules.{Fault, clear, breaks, rules, firstBroken, faultBy, fault, finished, full, byteLimit}
+use Rattle.rules.specs.Rules.{Fault, clear, breaks, rules, firstBroken, faultBy, fault, complete, full, byteLimit}
 use Rattle.rules.specs.Verdict.{stillOpen, refused, accepted, judged, verdictAfter}
-use Rattle.rules.specs.Verdict.{verdict, stands, standing, counts, finishAfter, finishVerdict}
+use Rattle.rules.specs.Verdict.{verdict, unrefused, standing, counts, finishAfter, finishVerdict}
 use Rattle.rules.proofs.TestLaws.{split, pick-clear}
 
 abbrev pub Clean : List ℕ → Type 0
@@ -44,12 +44,12 @@ module _ (seen : List ℕ) (b : ℕ) where
 
   -- the byte that is refused, and those after it, do not stand
   pub standing-refused : (n line f l k : ℕ) → verdict (b ∷ seen) ≡ refused n line f l k → standing (b ∷ seen) ≡ standing seen
-  unfolding standing stands
+  unfolding standing unrefused
   standing-refused n line f l k e = rw e
 
 -- the bytes of a clean history stand
 pub standing-clean : (seen : List ℕ) → Clean seen → standing seen ≡ seen
-unfolding standing stands
+unfolding standing unrefused
 standing-clean [] c = refl
 standing-clean (b ∷ seen) c = rw c
 
@@ -143,19 +143,19 @@ module _ (seen : List ℕ) (b : ℕ) (c : Clean (b ∷ seen)) where
 
 -- a byte that breaks no rule
 module _ (seen : List ℕ) (b : ℕ) (e : fault seen b ≡ clear) where
-  clear-parts : (full seen ≡ false) × (finished seen ≡ false) × (firstBroken rules seen b ≡ clear)
+  clear-parts : (full seen ≡ false) × (complete seen ≡ false) × (firstBroken rules seen b ≡ clear)
   unfolding fault faultBy
   clear-parts =
       let a = pick-clear (full seen) 16 0 _ e in
-      let d = pick-clear (finished seen) 15 0 _ (a .1) in
+      let d = pick-clear (complete seen) 15 0 _ (a .1) in
       (a .0, d .0, d .1)
 
   pub clear-room : length seen < byteLimit
   unfolding full
   clear-room = leb-false byteLimit (length seen) (clear-parts .0)
 
-  pub clear-unfinished : finished seen ≡ false
-  clear-unfinished = clear-parts .1
+  pub clear-incomplete : complete seen ≡ false
+  clear-incomplete = clear-parts .1
 
   pub clear-rules : firstBroken rules seen b ≡ clear
   clear-rules = clear-parts .2
@@ -167,7 +167,7 @@ clean-short (b ∷ seen) c = clear-room seen b (clean-clear seen b c)
 -- the answer of finish
 pub finish-clean : (seen : List ℕ) → Clean seen
     → finishVerdict seen
-    ≡ pick (finished seen) (accepted (length (lines seen)) (length seen))
+    ≡ pick (complete seen) (accepted (length (lines seen)) (length seen))
     (refused 14 (suc (length (lines seen))) 0 (length (lines seen)) (length seen))
 unfolding finishVerdict finishAfter
 finish-clean seen c = rw c
@@ -177,9 +177,9 @@ pub finish-refused : (seen : List ℕ) (n line f l k : ℕ) → verdict seen ≡
 unfolding finishVerdict finishAfter
 finish-refused seen n line f l k e = rw e
 
-pub accepted-clean : (seen : List ℕ) (l n : ℕ) → finishVerdict seen ≡ accepted l n → Clean seen × (finished seen ≡ true)
+pub accepted-clean : (seen : List ℕ) (l n : ℕ) → finishVerdict seen ≡ accepted l n → Clean seen × (complete seen ≡ true)
 accepted-clean seen l n e =
-    ⊎-elim (λ c. (c, split (finished seen) (λ t. t) (λ t. never (rw (finish-clean seen c, t) at e))))
+    ⊎-elim (λ c. (c, split (complete seen) (λ t. t) (λ t. never (rw (finish-clean seen c, t) at e))))
     (λ r. never (sym (finish-refused seen _ _ _ _ _ (r .says)) ∙ e))
     (clean-or-refused seen)
   where

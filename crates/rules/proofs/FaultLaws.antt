@@ -15,7 +15,7 @@ use Rattle.rules.specs.Order.{last, canStand, hasRoom, isData}
 use Rattle.rules.specs.Counts.{due}
 use Rattle.rules.specs.Fields.{formOf, states}
 use Rattle.rules.specs.Rules.{Fault, clear, breaks, rules, firstBroken, inField, pastFields, rowToBe, formAtHand}
-use Rattle.rules.specs.Rules.{openedBy, finished, isLastLine, isCodeBar, isFieldBar}
+use Rattle.rules.specs.Rules.{openedBy, complete, isLastLine, isCodeBar, isFieldBar}
 use Rattle.rules.specs.Rules.{breaks1, breaks2, breaks3, breaks4, breaks5, breaks6, breaks7}
 use Rattle.rules.specs.Rules.{breaks8, breaks9, breaks10, breaks11, breaks12, breaks13}
 use Rattle.rules.proofs.TestLaws.{split, and-left, and-right, and-false}
@@ -173,9 +173,9 @@ module _ (seen : List ℕ) where
     fault-field h e = by-bar (fieldFault seen) e (fault-field-bar h e)
 
 -- the file has ended where its last line is of row 9999
-pub finished-last : (seen : List ℕ) → finished seen ≡ eqb (last (rows seen)) row9999
-unfolding finished rows
-finished-last seen = go (lines seen)
+pub complete-last : (seen : List ℕ) → complete seen ≡ eqb (last (rows seen)) row9999
+unfolding complete rows
+complete-last seen = go (lines seen)
   where
     go : (ls : List (List ℕ)) → isLastLine ls ≡ eqb (last (map rowOf ls)) row9999
     go [] = unfold isLastLine last in refl

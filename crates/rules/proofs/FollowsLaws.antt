@@ -7,7 +7,7 @@ use Prim.Native.Nat.{ℕ}
 use native.Mathlib.Omega.{arith}
 use lib.ListN.{length, length-reverse}
 use lib.Seq.{append-snoc}
-use Rattle.rules.specs.Rules.{finished}
+use Rattle.rules.specs.Rules.{complete}
 use Rattle.rules.specs.Verdict.{stillOpen, refused, accepted, verdict, verdictOf, finalOf}
 use Rattle.rules.specs.Totals.{linesOf}
 use Rattle.rules.specs.Follows.{NoneBroken, nothing-yet, one-byte-more, Follows, FirstBroken, CutShort}
@@ -102,11 +102,11 @@ module _ (file : List ℕ) where
         → FirstBroken file number line field lines bytes ⊎ CutShort file number line field lines bytes
     unfolding finalOf verdictOf
     refused-names e =
-        ⊎-elim (λ c. inr (short c (finished (reverse file)) refl))
+        ⊎-elim (λ c. inr (short c (complete (reverse file)) refl))
         (λ r. inl (midway-first (r .says ∙ sym (finish-refused (reverse file) _ _ _ _ _ (r .says)) ∙ e)))
         (clean-or-refused (reverse file))
       where
-        short : Clean (reverse file) → (t : Bool) → finished (reverse file) ≡ t → CutShort file number line field lines bytes
+        short : Clean (reverse file) → (t : Bool) → complete (reverse file) ≡ t → CutShort file number line field lines bytes
         short c true t =
             let q = rw (finish-clean (reverse file) c, t) at e in
             absurd (let z : _≡_ {A = ℕ} 0 1 = cc in omega arith)

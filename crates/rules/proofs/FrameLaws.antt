@@ -9,7 +9,7 @@ use lib.Dec.{T, eqb, ltb, eqb→eq}
 use borrow.Author.Tests.{eqb-true}
 use Rattle.layout.specs.Text.{bytes, codeNumber, textNumber}
 use Rattle.layout.specs.Rows.{rowTable, listed, code, level, rowCount, blockLetters, placeOf, block, isOpening, isClosing}
-use Rattle.layout.specs.Rows.{lastAmong, parent, opening, row0000, row9999}
+use Rattle.layout.specs.Rows.{lastAmong, parent, opening, row0000, row0001, row9999}
 use Rattle.layout.proofs.Below.{below, those, those-at}
 use Rattle.layout.proofs.BlockLaws.{opening-is, opening-block}
 use Rattle.layout.proofs.RoleLaws.{none-closing, block-9990, closing-9990}
@@ -17,7 +17,7 @@ use Rattle.rules.specs.Bytes.{rowOf}
 use Rattle.rules.specs.Order.{last, shallower, openRows, among, isOpen, canStand}
 use Rattle.rules.specs.Order.{startsFile, startsBlock, endsBlock, endsFile, hangs}
 use Rattle.rules.specs.Rules.{isLastLine}
-use Rattle.rules.specs.Totals.{lastLine, row0001, IsAmong, HasOpening, HasClosing, IsThere}
+use Rattle.rules.specs.Totals.{lastLine, IsAmong, HasOpening, HasClosing, IsThere}
 use Rattle.rules.proofs.TestLaws.{split, both, and-right}
 use Rattle.rules.proofs.Stood.{Stood}
 use Rattle.rules.proofs.StandLaws.{stand-closing}

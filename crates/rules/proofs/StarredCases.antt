@@ -28,7 +28,7 @@ unfolding cases fileOf
     Fields.isText Fields.formOf Fields.states
     Rules.inField Rules.pastFields Rules.isCodeBar Rules.rowToBe Rules.isFieldBar Rules.formAtHand Rules.breaks1 Rules.breaks2
     Rules.breaks3 Rules.breaks4 Rules.breaks5 Rules.openedBy Rules.breaks6 Rules.breaks7 Rules.breaks8 Rules.breaks9
-    Rules.breaks10 Rules.breaks11 Rules.breaks12 Rules.breaks13 Rules.isLastLine Rules.finished Rules.full Rules.rules
+    Rules.breaks10 Rules.breaks11 Rules.breaks12 Rules.breaks13 Rules.isLastLine Rules.complete Rules.full Rules.rules
     Rules.firstBroken Rules.faultBy Rules.fault
     Verdict.judged Verdict.verdictAfter Verdict.verdict Verdict.finishAfter Verdict.finishVerdict Verdict.finalOf
 starred-cases = refl

@@ -9,14 +9,14 @@ use native.Mathlib.Omega.{arith}
 use lib.Dec.{eqb}
 use lib.ListN.{length, length-map}
 use Rattle.layout.specs.Pick.{pick}
-use Rattle.layout.specs.Rows.{block, isClosing, row0000, row9999}
+use Rattle.layout.specs.Rows.{block, isClosing, row0000, row0001, row9999}
 use Rattle.rules.specs.Bytes.{lines, rowOf, rows}
 use Rattle.rules.specs.Order.{last}
 use Rattle.rules.specs.Counts.{linesOfBlock, due}
-use Rattle.rules.specs.Rules.{finished}
+use Rattle.rules.specs.Rules.{complete}
 use Rattle.rules.specs.Verdict.{accepted, finishVerdict, finalOf, countsOf}
 use Rattle.rules.specs.Totals.{sum, blockCount, statedBy, closingsState}
-use Rattle.rules.specs.Totals.{linesOf, lastLine, rowsOf, row0001, IsAmong, IsThere}
+use Rattle.rules.specs.Totals.{linesOf, lastLine, rowsOf, IsAmong, IsThere}
 use Rattle.layout.proofs.RoleLaws.{closing-9999}
 use Rattle.rules.proofs.TestLaws.{both}
 use Rattle.rules.proofs.Stood.{Stood}
@@ -104,7 +104,7 @@ module _ (file : List ℕ) (l n : ℕ) (answer : finalOf file ≡ accepted l n) 
   clean = accepted-clean seen l n final .0
 
   ended : Ended (lines seen)
-  unfolding finished
+  unfolding complete
   ended = ended-by (lines seen) (accepted-clean seen l n final .1)
 
   length-lines : length (lines seen) ≡ l

@@ -5,7 +5,7 @@ use mathlib.Core.Bool.{true, false}
 use mathlib.Core.List.{List, [], _∷_, _++_, reverse}
 use Prim.Native.Nat.{ℕ, suc}
 use lib.ListN.{length}
-use Rattle.rules.specs.Rules.{clear, breaks, fault, finished}
+use Rattle.rules.specs.Rules.{clear, breaks, fault, complete}
 use Rattle.rules.specs.Totals.{linesOf}
 
 -- no byte breaks a rule: each of them is clear after those received before it
@@ -16,7 +16,7 @@ pub data NoneBroken : List ℕ → Type 0 where
 -- the file follows the layout: no byte breaks a rule, and 9999's LF has come
 pub record Follows (file : List ℕ) : Type 0 where
   pub noneBroken : NoneBroken (reverse file)
-  pub complete : finished (reverse file) ≡ true
+  pub complete : complete (reverse file) ≡ true
 
 -- "The first byte that breaks a rule decides": the bytes before it break none, it breaks this rule and names this field.
 -- "Line" is the number of lines ended, plus 1; the refusing byte is judged.
@@ -34,7 +34,7 @@ pub record FirstBroken (file : List ℕ) (number line field lines bytes : ℕ) :
 -- 14: "finish asked before 9999's LF has come", with field 0: no byte breaks a rule, and the file is too short
 pub record CutShort (file : List ℕ) (number line field lines bytes : ℕ) : Type 0 where
   pub noneBroken : NoneBroken (reverse file)
-  pub incomplete : finished (reverse file) ≡ false
+  pub incomplete : complete (reverse file) ≡ false
   pub numberIs : number ≡ 14
   pub fieldIs : field ≡ 0
   pub lineIs : line ≡ suc lines

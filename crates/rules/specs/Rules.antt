@@ -99,8 +99,8 @@ unfoldable pub isLastLine : List (List ℕ) → Bool
 isLastLine [] = false
 isLastLine (line ∷ before) = eqb (rowOf line) row9999
 
-unfoldable pub finished : List ℕ → Bool
-finished seen = isLastLine (lines seen)
+unfoldable pub complete : List ℕ → Bool
+complete seen = isLastLine (lines seen)
 
 -- 16: "byte number 4,294,967,296"
 abbrev pub byteLimit : ℕ
@@ -154,7 +154,7 @@ firstBroken (r ∷ rs) seen b =
 unfoldable pub faultBy : List Rule → List ℕ → ℕ → Fault
 faultBy held seen b =
     let rest = firstBroken held seen b in
-    pick (full seen) (breaks 16 0) (pick (finished seen) (breaks 15 0) rest)
+    pick (full seen) (breaks 16 0) (pick (complete seen) (breaks 15 0) rest)
 
 unfoldable pub fault : List ℕ → ℕ → Fault
 fault seen b = faultBy rules seen b

@@ -45,10 +45,6 @@ lastLine (line ∷ before) = line
 abbrev pub rowsOf : List ℕ → List ℕ
 rowsOf file = reverse (rows (reverse file))
 
--- "The first line is 0000, the second 0001": the row that the table has after 0000
-abbrev pub row0001 : ℕ
-row0001 = suc row0000
-
 -- the line is one of these
 abbrev pub IsAmong : List ℕ → List (List ℕ) → Type 0
 IsAmong line [] = ⊥

@@ -6,7 +6,7 @@ use lib.ListN.{length}
 use Rattle.layout.specs.Pick.{pick}
 use Rattle.rules.specs.Bytes.{lines, rows}
 use Rattle.rules.specs.Counts.{countsOfRows}
-use Rattle.rules.specs.Rules.{Fault, clear, breaks, fault, finished}
+use Rattle.rules.specs.Rules.{Fault, clear, breaks, fault, complete}
 
 pub data Verdict : Type 0 where
   -- nothing is refused so far: lines ended, bytes judged
@@ -34,7 +34,7 @@ verdict (b ∷ seen) = verdictAfter (verdict seen) seen b
 
 -- 14: "finish asked before 9999's LF has come"
 unfoldable pub finishAfter : Verdict → List ℕ → Verdict
-finishAfter (stillOpen l n) seen = pick (finished seen) (accepted l n) (refused 14 (suc l) 0 l n)
+finishAfter (stillOpen l n) seen = pick (complete seen) (accepted l n) (refused 14 (suc l) 0 l n)
 finishAfter (refused r line f l n) seen = refused r line f l n
 finishAfter (accepted l n) seen = accepted l n
 
@@ -42,14 +42,14 @@ unfoldable pub finishVerdict : List ℕ → Verdict
 finishVerdict seen = finishAfter (verdict seen) seen
 
 -- the bytes received before the first that breaks a rule
-unfoldable pub stands : Verdict → Bool
-stands (stillOpen l n) = true
-stands (refused r line f l n) = false
-stands (accepted l n) = true
+unfoldable pub unrefused : Verdict → Bool
+unrefused (stillOpen l n) = true
+unrefused (refused r line f l n) = false
+unrefused (accepted l n) = true
 
 unfoldable pub standing : List ℕ → List ℕ
 standing [] = []
-standing (b ∷ seen) = let rest = standing seen in pick (stands (verdict (b ∷ seen))) (b ∷ seen) rest
+standing (b ∷ seen) = let rest = standing seen in pick (unrefused (verdict (b ∷ seen))) (b ∷ seen) rest
 
 -- "98 counts in row order, of lines ended so far"
 unfoldable pub counts : List ℕ → List ℕ

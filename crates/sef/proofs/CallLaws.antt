@@ -23,7 +23,7 @@ use Rattle.sef.specs.declared.answers.FinalAnswer.{FinalAnswer}
 use Rattle.sef.specs.declared.answers.FinalAnswer.the-variants as Final
 use Rattle.sef.specs.declared.answers.ReportAnswer.the-variants as Report
 use Rattle.sef.proofs.CallCases.{check-damaged, check-late, check-kept, check-run, finish-damaged, finish-late, finish-now}
-use Rattle.sef.proofs.ClosedLaws.{check-ranged, finish-ranged}
+use Rattle.sef.proofs.InRangeLaws.{check-ranged, finish-ranged}
 use Rattle.sef.proofs.Joined.{given-ranged, given-counts, given-ended, check-joined, check-counted, finish-joined}
 
 -- A piece.
@@ -35,7 +35,7 @@ module _ (s : State) (piece : List ℕ) (all : AllBytes piece) where
         inRange = λ h. rw e (check-ranged s h piece all);
         joined = λ file h. rw e (check-joined file s h piece);
         counted = λ file h. rw e (check-counted file s h piece);
-        kept = λ file h. rw e (more h piece all);
+        reached = λ file h. rw e (more h piece all);
       }
 
   pub checks-damaged : rangedOf s ≡ false → Checks s piece (unchanged Piece.Damaged s)
@@ -62,7 +62,7 @@ module _ (s : State) where
         exact = e;
         inRange = λ h. rw e (finish-ranged s h);
         joined = λ file h. ap (λ c. finallySaid (c .answer)) e ∙ finish-joined file s h;
-        kept = λ file h. rw e (done h);
+        closed = λ file h. rw e (done h);
       }
 
   pub finishes-damaged : rangedOf s ≡ false → Finishes s (finallyUnchanged Final.Damaged s)
@@ -88,7 +88,7 @@ module _ (s : State) (before : List ℕ) where
         exact = unfold reportOf in rw e;
         buffer = unfold reportedOf in rw e;
         counted = λ file g w. both (given-ranged file s g) e;
-        ended = λ file g w. both (given-ranged file s g) e;
+        given = λ file g w. both (given-ranged file s g) e;
       }
 
   pub reports-no-room : rangedOf s ≡ true → length before < rowCount → Reports s before Report.NoRoom before
@@ -97,7 +97,7 @@ module _ (s : State) (before : List ℕ) where
         exact = unfold reportOf in rw (e, lt-ltb (length before) rowCount l);
         buffer = unfold reportedOf in rw (e, lt-ltb (length before) rowCount l);
         counted = λ file g w. absurd (no-room-said w);
-        ended = λ file g w. absurd (no-room-said w);
+        given = λ file g w. absurd (no-room-said w);
       }
 
   pub reports-written : (after : List ℕ) → rangedOf s ≡ true → rowCount ≤ length before
@@ -107,7 +107,7 @@ module _ (s : State) (before : List ℕ) where
         exact = unfold reportOf in rw (e, le-ltb (length before) rowCount l);
         buffer = unfold reportedOf in rw (e, le-ltb (length before) rowCount l) p;
         counted = λ file g w. of-file file (given-counts file s g);
-        ended = λ file g w. unfold reportSaid in (let n = given-ended file s g in λ i. numbers 0 0 0 (n .0 i) (n .1 i));
+        given = λ file g w. unfold reportSaid in (let n = given-ended file s g in λ i. numbers 0 0 0 (n .0 i) (n .1 i));
       }
     where
       of-file : (file : List ℕ) → s .tally .counts ≡ countsOf file → after ≡ countsOf file ++ drop rowCount before

@@ -21,7 +21,7 @@ use Rattle.sef.specs.declared.answers.FinalAnswer.{FinalAnswer}
 use Rattle.sef.specs.declared.answers.FinalAnswer.the-variants as Final
 use Rattle.sef.specs.declared.answers.ReportAnswer.{ReportAnswer}
 use Rattle.sef.specs.declared.answers.ReportAnswer.the-variants as Report
-use Rattle.sef.proofs.ClosedLaws.{Pieces, check-pieces, Finishing, finish-finishing}
+use Rattle.sef.proofs.InRangeLaws.{Pieces, check-pieces, Finishing, finish-finishing}
 use Rattle.sef.proofs.CallCases.{check-damaged, finish-damaged}
 
 -- A piece at any state: 19, or what it comes to at a state in range.

@@ -36,8 +36,8 @@ use Rattle.sef.specs.declared.answers.ReportAnswer.{ReportAnswer}
 use Rattle.sef.specs.declared.answers.ReportAnswer.the-variants as Report
 use Rattle.sef.proofs.RangeLaws.{kept-refusal, no-field}
 use Rattle.sef.proofs.RunLaws.{Comes, opens, stops-by}
-use Rattle.sef.proofs.ClosedLaws.{stopped-ranged, Pieces, late, kept, run, check-pieces, Finishing, closes}
-use Rattle.sef.proofs.ClosedLaws.{finish-finishing}
+use Rattle.sef.proofs.InRangeLaws.{stopped-ranged, Pieces, late, kept, run, check-pieces, Finishing, closes}
+use Rattle.sef.proofs.InRangeLaws.{finish-finishing}
 use Rattle.sef.proofs.Joined.{reached-state, reached-ranged, reached-open, given-ranged}
 use Rattle.sef.proofs.CallCases.{check-damaged, check-late, check-kept, check-run, finish-damaged, finish-late, finish-now}
 use Rattle.sef.proofs.CallViews.{AnyPiece, any-piece, AnyFinish, any-finish, AnyReport, report-any, Finals, finals}
@@ -134,7 +134,7 @@ first-place-named file s r h c number line field lines bytes = (
 
 pub pieces-joined : D.PiecesJoined
 pieces-joined file s h =
-    ((λ piece r c. (c .joined file h, c .counted file h, c .kept file h)), (λ r c. c .joined file h))
+    ((λ piece r c. (c .joined file h, c .counted file h, c .reached file h)), (λ r c. c .joined file h))
 
 pub cuts-do-not-matter : D.CutsDoNotMatter
 cuts-do-not-matter file s t h g = reached-state file s h ∙ sym (reached-state file t g)
@@ -153,7 +153,7 @@ block-counts-add-up file s r h c l n e =
       eachClosing = λ line m k before q after p z.
           accepted-closing file l n a line m k
           ∙ ap (blockCount (block (rowOf line)))
-          (sym (ap (take rowCount) (p .counted file (inr (c .kept file h)) z)
+          (sym (ap (take rowCount) (p .counted file (inr (c .closed file h)) z)
           ∙ take-at (countsOf file) (drop rowCount before) rowCount (counts-98 file)));
     }
 
@@ -329,7 +329,7 @@ pub open-while-unrefused : D.OpenWhileUnrefused
 open-while-unrefused file s piece r h c n = c .joined file h ∙ none-broken-open (file ++ piece) n
 
 pub report-gives-them : D.ReportGivesThem
-report-gives-them file s before r after g c z = c .ended file g z
+report-gives-them file s before r after g c z = c .given file g z
 
 -- a state in range with no refusal is the one that an empty piece leaves
 opened-again : (s : State) → s .finished ≡ false → s .rule ≡ 0 → s .field ≡ 0 → openOf (s .hot) (s .tally) .state ≡ s

@@ -12,7 +12,7 @@ use Rattle.sef.specs.Ranges.{rangedOf}
 use Rattle.sef.specs.Promises.{Reached, start, more, Closed, done, Given}
 use Rattle.sef.specs.declared.state.State.{State}
 use Rattle.sef.specs.declared.answers.Finished.{Finished}
-use Rattle.sef.proofs.ClosedLaws.{fresh-ranged, check-ranged, finish-ranged, Finishing, late, closes, finish-finishing}
+use Rattle.sef.proofs.InRangeLaws.{fresh-ranged, check-ranged, finish-ranged, Finishing, late, closes, finish-finishing}
 use Rattle.sef.proofs.StateAfter.{checkedAfter, check-after, finish-after, said-after, ended-after, counts-after}
 use Rattle.sef.proofs.StateAfter.{open-after}
 use Rattle.sef.proofs.FreshState.{fresh-is}

@@ -4,7 +4,7 @@ pub mod StepRanges
 pub mod TallyRanges
 pub mod RunLaws
 pub mod CallCases
-pub mod ClosedLaws
+pub mod InRangeLaws
 pub mod ArrayLaws
 pub mod NumberLaws
 pub mod StateAfter

@@ -5,7 +5,7 @@ use mathlib.Core.List.{List, [], _∷_}
 use Prim.Native.Nat.{ℕ, _≤_}
 use native.Mathlib.Omega.{arith}
 use Rattle.layout.specs.Pick.{pick}
-use Rattle.rules.specs.Rules.{Fault, clear, breaks, Rule, rules, firstBroken, faultBy, fault, full, finished}
+use Rattle.rules.specs.Rules.{Fault, clear, breaks, Rule, rules, firstBroken, faultBy, fault, full, complete}
 
 data Numbered : Fault → Type 0 where
   no-rule : Numbered clear
@@ -33,7 +33,7 @@ module _ (seen : List ℕ) (b : ℕ) where
   unfolding fault faultBy
   fault-numbered =
       pick-numbered (full seen) _ _ (a-rule (omega arith))
-      (pick-numbered (finished seen) _ _ (a-rule (omega arith)) (first-numbered seen b rules rules-numbered))
+      (pick-numbered (complete seen) _ _ (a-rule (omega arith)) (first-numbered seen b rules rules-numbered))
 
   pub fault-number : (n f : ℕ) → fault seen b ≡ breaks n f → 1 ≤ n
   fault-number n f e = go (fault seen b) fault-numbered e

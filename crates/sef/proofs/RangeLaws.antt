@@ -14,7 +14,7 @@ use Rattle.layout.specs.Packed.{mostKind}
 use Rattle.rules.specs.Rules.{byteLimit}
 use Rattle.rules.proofs.TestLaws.{and-left, and-right}
 use Rattle.field.specs.Streaming.{cap}
-use Rattle.line.specs.Machine.{HotFit, mostBars, data1}
+use Rattle.line.specs.Machine.{HotFit, mostBars, withoutData}
 use Rattle.sef.specs.Ranges.{withinTo, lineRanged, hotRanged, mostRule, refusalRanged, tallyRanged, rangedOf, TallyFit}
 use Rattle.sef.specs.Ranges.{Held}
 use Rattle.line.specs.declared.hot.Hot.{Hot}
@@ -55,7 +55,7 @@ fit-of h e =
     let b = leb (h .lines) (h .bytes) in
     let c = leb (h .last) rowCount in
     let d = leb (h .since) (h .bytes) in
-    let s = leb (h .says) data1 in
+    let s = leb (h .says) withoutData in
     let e₅ = and-left (a && b && c && d && s) (lineRanged h) e in
     let e₄ = and-left (a && b && c && d) s e₅ in
     let e₃ = and-left (a && b && c) d e₄ in
@@ -96,7 +96,7 @@ hot-ranged h f =
       le-leb (h .lines) (h .bytes) (f .lines),
       le-leb (h .last) rowCount (f .last),
       le-leb (h .since) (h .bytes) (f .since),
-      le-leb (h .says) data1 (f .says),
+      le-leb (h .says) withoutData (f .says),
       le-leb (h .bars) mostBars (f .bars),
       le-leb (h .row) rowCount (f .row),
       le-leb (h .fields) mostFields (f .fields),
@@ -193,7 +193,7 @@ module _ (s : State) (e : rangedOf s ≡ true) where
     held-of =
         record {
           fit = state-fit;
-          limit = unbroken (s .rule) (s .field) (s .hot .bytes) z (and-right hot refusal first-two) .limit;
+          withinLimit = unbroken (s .rule) (s .field) (s .hot .bytes) z (and-right hot refusal first-two) .limit;
           tally = state-tally;
         }
 

@@ -32,7 +32,7 @@ module _ (h n : Hot) (t : Tally) (b : ℕ) (d : Held h t) where
       let s = led (stepOf h (t .stamps) (t .occurrences) b) (step-leads h (d .fit) (t .stamps) (t .occurrences) b byte) e in
       record {
         fit = s .0;
-        limit = omega (arith, s .1, s .2);
+        withinLimit = omega (arith, s .1, s .2);
         tally = rw (s .1) (tally-next h (n .lines) b t (h .bytes) (d .tally) (omega (arith, s .0 .lines, s .1)));
       }
 

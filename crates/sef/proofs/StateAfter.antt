@@ -16,7 +16,7 @@ use Rattle.rules.specs.Counts.{countsOfRows}
 use Rattle.rules.specs.Rules.{Fault, clear, breaks, fault}
 use Rattle.rules.specs.Verdict.{Verdict, stillOpen, refused, accepted, verdict, standing, counts, finishVerdict}
 use Rattle.rules.proofs.TestLaws.{split}
-use Rattle.rules.proofs.FaultLaws.{finished-last}
+use Rattle.rules.proofs.FaultLaws.{complete-last}
 use Rattle.rules.proofs.OccurrenceLaws.{stamps, occurrences}
 use Rattle.rules.proofs.CleanLaws.{Clean, Refused, clean-next, verdict-broken, verdict-stays, standing-refused, standing-clean}
 use Rattle.rules.proofs.CleanLaws.{clean-or-refused, finish-clean, finish-refused}
@@ -137,7 +137,7 @@ module _ (seen : List ℕ) (ranged : rangedOf (checkedAfter seen .state) ≡ tru
   finish-open c =
       rw (clean-ranged c)
       (unfold openOf finalAnswerOf in
-      rw (finish-clean seen c, finished-last seen)
+      rw (finish-clean seen c, complete-last seen)
       (split (eqb (last (rows seen)) row9999) (λ t. unfold finallySaid in rw t) (λ t. unfold finallySaid in rw (t, add-one))))
 
   finish-stopped : (r : Refused seen)

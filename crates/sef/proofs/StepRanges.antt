@@ -16,7 +16,7 @@ use Rattle.rules.specs.Rules.{byteLimit}
 use Rattle.rules.proofs.TestLaws.{pick-le}
 use Rattle.field.specs.Streaming.{FieldFit, emptyFault, contentFault, numberFault, textFault, faultOf}
 use Rattle.field.specs.declared.bytes.Field.{Field}
-use Rattle.line.specs.Machine.{HotFit, mostBars, data1, grownOf, movedOf, endedOf, sinceOf, codeBarOf, saysOf, fieldBarOf, barOf}
+use Rattle.line.specs.Machine.{HotFit, mostBars, withoutData, grownOf, movedOf, endedOf, sinceOf, codeBarOf, saysOf, fieldBarOf, barOf}
 use Rattle.line.specs.Machine.{controlOf, inFieldOf, pastOf, startOf, stepOf}
 use Rattle.sef.specs.Ranges.{mostRule}
 use Rattle.line.specs.declared.hot.Hot.{Hot}
@@ -82,7 +82,7 @@ module _ (h : Hot) (f : HotFit h) (small : h .bytes < byteLimit) where
       stops {rule = rule} {field = field} (known-least rule k) (known-most rule k) (omega arith)
 
   moved-leads : h .bars ≤ mostFields → (r fields kind says : ℕ) → r ≤ rowCount → fields ≤ mostFields → kind ≤ mostKind
-      → says ≤ data1 → Leads h (Next (movedOf h r fields kind says))
+      → says ≤ withoutData → Leads h (Next (movedOf h r fields kind says))
   moved-leads room r fields kind says row most small-kind said =
       goes {n = movedOf h r fields kind says}
       (record {
@@ -145,7 +145,7 @@ module _ (h : Hot) (f : HotFit h) (small : h .bytes < byteLimit) where
       })
       refl small
 
-  says-le : saysOf h ≤ data1
+  says-le : saysOf h ≤ withoutData
   unfolding saysOf
   says-le = let le = f .says in search (pick-le, lit≤) depth 8
 

@@ -8,7 +8,7 @@ use Rattle.layout.specs.Pick.{pick}
 use Rattle.layout.specs.Rows.{rowCount, none, row9999}
 use Rattle.rules.specs.Bytes.{LF}
 use Rattle.field.specs.Streaming.{emptyField}
-use Rattle.line.specs.Machine.{entryOf, usedOf, stepOf}
+use Rattle.line.specs.Machine.{codeKind, codeOnly, entryOf, usedOf, stepOf}
 use Rattle.line.specs.declared.hot.Hot.{Hot}
 use Rattle.line.specs.declared.step.Step.{Step}
 use Rattle.line.specs.declared.step.Step.the-variants.{Next, Broken}
@@ -98,8 +98,8 @@ fresh =
       says = 0;
       bars = 0;
       row = none;
-      fields = 1;
-      kind = 1;
+      fields = codeOnly;
+      kind = codeKind;
       field = emptyField;
     })
     0

@@ -8,11 +8,11 @@ use mathlib.Core.List.{List, [], _∷_, _++_, reverse}
 use mathlib.Core.Logic.{_⊎_}
 use Prim.Native.Nat.{ℕ, _+_, _≤_, _<_}
 use lib.ListN.{length, take, drop}
-use Rattle.layout.specs.Rows.{rowCount, block, isClosing, row0000, row9999}
+use Rattle.layout.specs.Rows.{rowCount, block, isClosing, row0000, row0001, row9999}
 use Rattle.rules.specs.Bytes.{rowOf}
 use Rattle.rules.specs.Verdict.{Verdict, stillOpen, refused, accepted, verdictOf, finalOf, countsOf}
 use Rattle.rules.specs.Follows.{NoneBroken, Follows, FirstBroken, CutShort}
-use Rattle.rules.specs.Totals.{closingsState, statedBy, linesOf, lastLine, rowsOf, row0001, blockCount, IsAmong, IsThere}
+use Rattle.rules.specs.Totals.{closingsState, statedBy, linesOf, lastLine, rowsOf, blockCount, IsAmong, IsThere}
 use Rattle.line.specs.Machine.{mostBars}
 use Rattle.sef.specs.Answers.{numbers, numbersOf, said, finallySaid, reportSaid}
 use Rattle.sef.specs.Calls.{fresh, checkOf}

@@ -35,14 +35,14 @@ pub record Checks (s : State) (piece : List ℕ) (r : Checked) : Type 0 where
   pub inRange : rangedOf s ≡ true → rangedOf (r .state) ≡ true
   pub joined : (file : List ℕ) → Reached file s → said (r .answer) ≡ verdictOf (file ++ piece)
   pub counted : (file : List ℕ) → Reached file s → r .state .tally .counts ≡ countsOf (file ++ piece)
-  pub kept : (file : List ℕ) → Reached file s → Reached (file ++ piece) (r .state)
+  pub reached : (file : List ℕ) → Reached file s → Reached (file ++ piece) (r .state)
 
 -- Finish. Demands 1 and 2: the final answer is the one that the rules give for the whole file.
 pub record Finishes (s : State) (r : Finished) : Type 0 where
   pub exact : r ≡ finishOf s
   pub inRange : rangedOf s ≡ true → rangedOf (r .state) ≡ true
   pub joined : (file : List ℕ) → Reached file s → finallySaid (r .answer) ≡ finalOf file
-  pub kept : (file : List ℕ) → Reached file s → Closed file (r .state)
+  pub closed : (file : List ℕ) → Reached file s → Closed file (r .state)
 
 -- A state given back by calls from a fresh start, whose pieces joined are the file: "The report may be asked at any time, also
 -- after refusal or finish".
@@ -54,5 +54,5 @@ pub record Reports (s : State) (before : List ℕ) (r : ReportAnswer) (after : L
   pub exact : r ≡ reportOf s before
   pub buffer : after ≡ reportedOf s before
   pub counted : (file : List ℕ) → Given file s → reportSaid r .refusal ≡ 0 → after ≡ countsOf file ++ drop rowCount before
-  pub ended : (file : List ℕ) → Given file s → reportSaid r .refusal ≡ 0
+  pub given : (file : List ℕ) → Given file s → reportSaid r .refusal ≡ 0
       → reportSaid r ≡ numbers 0 0 0 (numbersOf (verdictOf file) .lines) (numbersOf (verdictOf file) .bytes)

@@ -9,7 +9,7 @@ use Rattle.layout.specs.Rows.{rowCount, mostFields}
 use Rattle.layout.specs.Packed.{mostKind}
 use Rattle.rules.specs.Rules.{byteLimit}
 use Rattle.field.specs.Streaming.{cap}
-use Rattle.line.specs.Machine.{HotFit, mostBars, data1}
+use Rattle.line.specs.Machine.{HotFit, mostBars, withoutData}
 use Rattle.line.specs.declared.hot.Hot.{Hot}
 use Rattle.sef.specs.declared.state.State.{State}
 use Rattle.sef.specs.declared.state.Tally.{Tally}
@@ -29,7 +29,7 @@ lineRanged h =
 unfoldable pub hotRanged : Hot → Bool
 hotRanged h =
     leb (h .bytes) (byteLimit + 1) && leb (h .lines) (h .bytes) && leb (h .last) rowCount && leb (h .since) (h .bytes)
-    && leb (h .says) data1 && lineRanged h
+    && leb (h .says) withoutData && lineRanged h
 
 -- the last of the rules that a byte can break
 abbrev pub mostRule : ℕ
@@ -59,5 +59,5 @@ pub record TallyFit (t : Tally) (m : ℕ) : Type 0 where
 
 pub record Held (h : Hot) (t : Tally) : Type 0 where
   pub fit : HotFit h
-  pub limit : h .bytes ≤ byteLimit
+  pub withinLimit : h .bytes ≤ byteLimit
   pub tally : TallyFit t (h .bytes)

@@ -30,14 +30,14 @@ fresh-ranged = refl
 -- What a piece comes to.
 opened-ranged : (h : Hot) (t : Tally) → Held h t → rangedOf (openOf h t .state) ≡ true
 unfolding openOf
-opened-ranged h t d = ranged-by (stateOf h 0 0 false t) (d .fit) (d .tally) (open-ranged (h .bytes) (d .limit))
+opened-ranged h t d = ranged-by (stateOf h 0 0 false t) (d .fit) (d .tally) (open-ranged (h .bytes) (d .withinLimit))
 
 -- the refusing byte is judged too
 judged-fit : (h : Hot) (t : Tally) → Held h t → HotFit (judgedOne h)
 judged-fit h t d =
     let f = d .fit in
     record {
-      bytes = omega (arith, d .limit);
+      bytes = omega (arith, d .withinLimit);
       lines = omega (arith, f .lines);
       last = f .last;
       since = omega (arith, f .since);
