@@ -2,7 +2,7 @@
 use mathlib.Core.Path.{_≡_, _∙_, refl, sym, ap, subst}
 use mathlib.Core.Bool.{Bool, true, false}
 use mathlib.Core.List.{List, [], _++_, reverse}
-use mathlib.Core.Logic.{inr, ⊎-elim}
+use mathlib.Core.Logic.{inl, inr, ⊎-elim}
 use Prim.Native.Nat.{ℕ, _+_, _≤_}
 use native.Mathlib.Omega.{arith}
 use lib.Dec.{eqb}
@@ -12,19 +12,19 @@ use borrow.Author.Tests.{ne-eqb, eqb-true, eqb-false, le-ltb, lt-ltb}
 use Rattle.layout.specs.Rows.{rowCount, block}
 use Rattle.rules.specs.Bytes.{rowOf, rows}
 use Rattle.rules.specs.Totals.{blockCount}
-use Rattle.rules.specs.Verdict.{countsOf, counts, standing}
+use Rattle.rules.specs.Verdict.{refused, countsOf, counts, standing}
 use Rattle.rules.proofs.TestLaws.{both}
 use Rattle.rules.proofs.CountLaws.{counts-length}
 use Rattle.rules.proofs.FollowsLaws.{none-broken-open, follows-accepted, accepted-follows, first-refused, short-refused}
 use Rattle.rules.proofs.FollowsLaws.{refused-names}
 use Rattle.rules.proofs.TotalLaws.{accepted-last, accepted-sum, accepted-total, accepted-closing, accepted-first}
-use Rattle.rules.proofs.TotalLaws.{accepted-has-0-and-9}
+use Rattle.rules.proofs.TotalLaws.{accepted-there, accepted-has-0-and-9}
 use Rattle.sef.specs.Answers.{numbers, numbersOf, said, finallySaid, reportSaid}
 use Rattle.sef.specs.Calls.{openOf, stoppedOf, runOf, keptOf, unchanged, checkOf, finalAnswerOf, finishOf, reportOf}
 use Rattle.sef.specs.Ranges.{rangedOf}
 use Rattle.sef.specs.Promises.{Reached, start, more, Finishes}
 use Rattle.sef.specs.Demands as D
-use Rattle.sef.specs.Demands.{Answered, isAccepted, isRefused, InTable, unrefused, byRule, ofCall, Stays}
+use Rattle.sef.specs.Demands.{Answered, isAccepted, isRefused, InTable, isOpen, byRule, ofCall, ReportInTable, refuses, Stays}
 use Rattle.sef.specs.declared.state.State.{State}
 use Rattle.sef.specs.declared.answers.Numbers.{Numbers}
 use Rattle.sef.specs.declared.answers.Checked.{Checked}
@@ -43,51 +43,51 @@ use Rattle.sef.proofs.CallCases.{check-damaged, check-late, check-kept,
 use Rattle.sef.proofs.CallViews.{AnyPiece, any-piece, AnyFinish, any-finish, AnyReport, report-any, Finals, finals}
 use Rattle.sef.proofs.CallViews.{damaged, ranged, no-room, writes, accepts, short, keeps}
 
--- The answers' numbers.
+-- The answers, in the table.
 module _ (s : State) where
-  kept-in-table : rangedOf s ≡ true → (s .rule ≡ 0 → ⊥) → InTable (keptOf s)
-  unfolding keptOf
-  kept-in-table e z =
+  kept-number : rangedOf s ≡ true → (s .rule ≡ 0 → ⊥)
+      → InTable (refused (s .rule) (s .hot .lines + 1) (s .field) (s .hot .lines) (s .hot .bytes))
+  kept-number e z =
       let k = kept-refusal s e z in
       byRule (s .rule) (s .field) (s .hot .lines) (s .hot .bytes) (omega arith) (k .0) (k .1)
 
-  comes-in-table : (c : Checked) → Comes c → InTable (numbersOf (said (c .answer)))
-  unfolding openOf stoppedOf numbersOf said
-  comes-in-table c (opens h t d) = unrefused (h .lines) (h .bytes)
+  comes-in-table : (c : Checked) → Comes c → InTable (said (c .answer))
+  unfolding openOf stoppedOf said
+  comes-in-table c (opens h t d) = isOpen (h .lines) (h .bytes)
   comes-in-table c (stops-by h t rule field d one most named) = byRule rule field (h .lines) (h .bytes + 1) one most named
 
-  pieces-in-table : rangedOf s ≡ true → (piece : List ℕ) (c : Checked) → Pieces s piece c → InTable (numbersOf (said (c .answer)))
-  unfolding numbersOf said
+  pieces-in-table : rangedOf s ≡ true → (piece : List ℕ) (c : Checked) → Pieces s piece c → InTable (said (c .answer))
+  unfolding said keptOf
   pieces-in-table e piece c (late d) = ofCall 17 (omega arith) (omega arith)
-  pieces-in-table e piece c (kept d z) = kept-in-table e z
+  pieces-in-table e piece c (kept d z) = kept-number e z
   pieces-in-table e piece c (run d z comes) = comes-in-table c comes
 
-  piece-in-table : (piece : List ℕ) (c : Checked) → AnyPiece s piece c → InTable (numbersOf (said (c .answer)))
-  unfolding numbersOf said
+  piece-in-table : (piece : List ℕ) (c : Checked) → AnyPiece s piece c → InTable (said (c .answer))
+  unfolding said
   piece-in-table piece c (damaged e) = ofCall 19 (omega arith) (omega arith)
   piece-in-table piece c (ranged e p) = pieces-in-table e piece c p
 
-  finals-in-table : rangedOf s ≡ true → (a : FinalAnswer) → Finals s a → InTable (numbersOf (finallySaid a))
-  unfolding numbersOf finallySaid
-  finals-in-table e a accepts = unrefused (s .hot .lines) (s .hot .bytes)
+  finals-in-table : rangedOf s ≡ true → (a : FinalAnswer) → Finals s a → InTable (finallySaid a)
+  unfolding finallySaid keptOf
+  finals-in-table e a accepts = D.accepts (s .hot .lines) (s .hot .bytes)
   finals-in-table e a short = byRule 14 0 (s .hot .lines) (s .hot .bytes) (omega arith) (omega arith) (omega arith)
-  finals-in-table e a (keeps z) = kept-in-table e z
+  finals-in-table e a (keeps z) = kept-number e z
 
-  finishing-in-table : rangedOf s ≡ true → (c : Finished) → Finishing s c → InTable (numbersOf (finallySaid (c .answer)))
-  unfolding numbersOf finallySaid
+  finishing-in-table : rangedOf s ≡ true → (c : Finished) → Finishing s c → InTable (finallySaid (c .answer))
+  unfolding finallySaid
   finishing-in-table e c (late d) = ofCall 17 (omega arith) (omega arith)
   finishing-in-table e c (closes d) = finals-in-table e (finalAnswerOf s) (finals s)
 
-  finish-in-table : (c : Finished) → AnyFinish s c → InTable (numbersOf (finallySaid (c .answer)))
-  unfolding numbersOf finallySaid
+  finish-in-table : (c : Finished) → AnyFinish s c → InTable (finallySaid (c .answer))
+  unfolding finallySaid
   finish-in-table c (damaged e) = ofCall 19 (omega arith) (omega arith)
   finish-in-table c (ranged e p) = finishing-in-table e c p
 
-  report-in-table : (before : List ℕ) (r : ReportAnswer) (after : List ℕ) → AnyReport s before r after → InTable (reportSaid r)
+  report-in-table : (before : List ℕ) (r : ReportAnswer) (after : List ℕ) → AnyReport s before r after → ReportInTable r
   unfolding reportSaid
-  report-in-table before r after (damaged e) = ofCall 19 (omega arith) (omega arith)
-  report-in-table before r after (no-room e) = ofCall 18 (omega arith) (omega arith)
-  report-in-table before r after (writes e) = unrefused (s .hot .lines) (s .hot .bytes)
+  report-in-table before r after (damaged e) = refuses Report.Damaged 19 (omega arith) (omega arith) refl
+  report-in-table before r after (no-room e) = refuses Report.NoRoom 18 (omega arith) (omega arith) refl
+  report-in-table before r after (writes e) = D.writes (s .hot .lines) (s .hot .bytes)
 
 -- The tender.
 
@@ -134,7 +134,11 @@ first-place-named file s r h c number line field lines bytes = (
 
 pub pieces-joined : D.PiecesJoined
 pieces-joined file s h =
-    ((λ piece r c. (c .joined file h, c .counted file h, c .reached file h)), (λ r c. c .joined file h))
+    (
+      (λ piece r c. (c .joined file h, c .reached file h)),
+      (λ before r after c z. c .counted file (inl h) z),
+      (λ r c. c .joined file h),
+    )
 
 pub cuts-do-not-matter : D.CutsDoNotMatter
 cuts-do-not-matter file s t h g = reached-state file s h ∙ sym (reached-state file t g)
@@ -150,6 +154,7 @@ block-counts-add-up file s r h c l n e =
       lastIs9999 = accepted-last file l n a;
       addsUp = accepted-sum file l n a;
       total = accepted-total file l n a;
+      eachBlock = accepted-there file l n a;
       eachClosing = λ line m k before q after p z.
           accepted-closing file l n a line m k
           ∙ ap (blockCount (block (rowOf line)))

@@ -44,19 +44,22 @@ EveryFileAnswered =
 -- "A refusal has one number of a fixed table, with line and field."
 -- At every state each call's answer is in the table: nothing refused; a rule from 1 to 16 with the line, lines ended plus 1,
 -- and a field; or 17 to 19 alone.
-pub data InTable : Numbers → Type 0 where
-  unrefused : (lines bytes : ℕ) → InTable (numbers 0 0 0 lines bytes)
+pub data InTable : Verdict → Type 0 where
+  isOpen : (lines bytes : ℕ) → InTable (stillOpen lines bytes)
+  accepts : (lines bytes : ℕ) → InTable (accepted lines bytes)
   byRule : (number field lines bytes : ℕ) → 1 ≤ number → number ≤ 16 → field ≤ mostBars
-      → InTable (numbers number (lines + 1) field lines bytes)
-  ofCall : (number : ℕ) → 17 ≤ number → number ≤ 19 → InTable (numbers number 0 0 0 0)
+      → InTable (refused number (lines + 1) field lines bytes)
+  ofCall : (number : ℕ) → 17 ≤ number → number ≤ 19 → InTable (refused number 0 0 0 0)
+
+pub data ReportInTable : ReportAnswer → Type 0 where
+  writes : (lines bytes : ℕ) → ReportInTable (Report.Written lines bytes)
+  refuses : (r : ReportAnswer) (number : ℕ) → 18 ≤ number → number ≤ 19 → reportSaid r ≡ numbers number 0 0 0 0 → ReportInTable r
 
 abbrev pub OneNumber : Type 0
 OneNumber =
-    ((s : State) (piece : List ℕ) (r : Checked) → AllBytes piece → Checks s piece r
-    → InTable (numbersOf (said (r .answer))))
-    × ((s : State) (r : Finished) → Finishes s r → InTable (numbersOf (finallySaid (r .answer))))
-    × ((s : State) (before : List ℕ) (r : ReportAnswer) (after : List ℕ) → Reports s before r after
-    → InTable (reportSaid r))
+    ((s : State) (piece : List ℕ) (r : Checked) → AllBytes piece → Checks s piece r → InTable (said (r .answer)))
+    × ((s : State) (r : Finished) → Finishes s r → InTable (finallySaid (r .answer)))
+    × ((s : State) (before : List ℕ) (r : ReportAnswer) (after : List ℕ) → Reports s before r after → ReportInTable r)
 
 -- "A refused report writes nothing."
 abbrev pub RefusedReportWritesNothing : Type 0
@@ -88,8 +91,9 @@ abbrev pub PiecesJoined : Type 0
 PiecesJoined =
     (file : List ℕ) (s : State) → Reached file s
     → ((piece : List ℕ) (r : Checked) → Checks s piece r
-    → (said (r .answer) ≡ verdictOf (file ++ piece)) × (r .state .tally .counts ≡ countsOf (file ++ piece))
-    × Reached (file ++ piece) (r .state))
+    → (said (r .answer) ≡ verdictOf (file ++ piece)) × Reached (file ++ piece) (r .state))
+    × ((before : List ℕ) (r : ReportAnswer) (after : List ℕ) → Reports s before r after → reportSaid r .refusal ≡ 0
+    → after ≡ countsOf file ++ drop rowCount before)
     × ((r : Finished) → Finishes s r → finallySaid (r .answer) ≡ finalOf file)
 
 -- so it does not matter in what pieces it came
@@ -104,11 +108,12 @@ OfAccepted P =
 
 -- "In an accepted file the block counts add up to its stated total."
 -- The numbers that its closing lines state add up to the number that its last line, 9999, states, and that is its number of
--- lines; and what each closing states is the sum of its block's counts in the report.
+-- lines. Each block that has a line has its closing, and what that states is the sum of the block's counts in the report.
 pub record AddsUp (file : List ℕ) (lines : ℕ) (s : State) : Type 0 where
   pub lastIs9999 : rowOf (lastLine (linesOf file)) ≡ row9999
   pub addsUp : closingsState (linesOf file) ≡ statedBy (lastLine (linesOf file))
   pub total : statedBy (lastLine (linesOf file)) ≡ lines
+  pub eachBlock : (line : List ℕ) → IsAmong line (linesOf file) → IsThere (block (rowOf line)) (linesOf file)
   pub eachClosing : (line : List ℕ) → IsAmong line (linesOf file) → isClosing (rowOf line) ≡ true
       → (before : List ℕ) (q : ReportAnswer) (after : List ℕ) → Reports s before q after → reportSaid q .refusal ≡ 0
       → statedBy line ≡ blockCount (block (rowOf line)) (take rowCount after)
