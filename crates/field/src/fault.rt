@@ -2,14 +2,14 @@
 ghost use mathlib.Core.Path.{_≡_};
 ghost use Rattle.field.specs.Streaming.{emptyFault, rightForm, isExact, rightSize, contentFault, numberFault, isFixed};
 ghost use Rattle.field.specs.Streaming.{textFault, isTextClass, faultOf};
-use crate::bytes::SIZE_UNIT;
+use crate::bytes::CLASS_C;
 use crate::bytes::CLASS_COUNT;
 use crate::bytes::CLASS_DATE;
 use crate::bytes::CLASS_DECIMALS;
 use crate::bytes::CLASS_N;
-use crate::bytes::Field;
 use crate::bytes::CLASS_OPENS;
-use crate::bytes::CLASS_C;
+use crate::bytes::Field;
+use crate::bytes::SIZE_UNIT;
 use crate::bytes::is_fixed_class;
 use crate::date::is_date;
 

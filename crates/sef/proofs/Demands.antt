@@ -133,12 +133,11 @@ first-place-named file s r h c number line field lines bytes = (
 )
 
 pub pieces-joined : D.PiecesJoined
-pieces-joined file s h =
-    (
-      (λ piece r c. (c .joined file h, c .reached file h)),
-      (λ before r after c z. c .counted file (inl h) z),
-      (λ r c. c .joined file h),
-    )
+pieces-joined file s h = (
+  (λ piece r c. (c .joined file h, c .reached file h)),
+  (λ before r after c z. c .counted file (inl h) z),
+  (λ r c. c .joined file h),
+)
 
 pub cuts-do-not-matter : D.CutsDoNotMatter
 cuts-do-not-matter file s t h g = reached-state file s h ∙ sym (reached-state file t g)

@@ -54,6 +54,16 @@ fn noted(
     }
 }
 
+fn tally_of(counts: [u64; ROWS], stamps: [u64; ROWS], occurrences: [u64; ROWS]) -> Tally
+    ensures { λ r. ⌜ r ≡ tallyOf counts stamps occurrences ⌝ }
+{
+    Tally {
+        counts,
+        stamps,
+        occurrences,
+    }
+}
+
 // A piece, from a state in which nothing is refused. (The arrays are locals: each can then be lent by itself.)
 fn judge_all(
     rows: &[[u64; 4]; ENTRIES],
@@ -88,15 +98,7 @@ fn judge_all(
             b,
         );
         let Step::Next(n) = t else {
-            return ended_by(
-                t,
-                h,
-                Tally {
-                    counts,
-                    stamps,
-                    occurrences,
-                },
-            );
+            return ended_by(t, h, tally_of(counts, stamps, occurrences));
         };
         noted(
             parents,
@@ -110,14 +112,7 @@ fn judge_all(
         h = n;
         i += 1;
     }
-    opened(
-        h,
-        Tally {
-            counts,
-            stamps,
-            occurrences,
-        },
-    )
+    opened(h, tally_of(counts, stamps, occurrences))
 }
 
 // The same, with the tables: read once a piece, so that a look-up is a plain load.

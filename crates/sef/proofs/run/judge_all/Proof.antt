@@ -31,16 +31,21 @@ enum-known-t c = search needs
 enum-told : tie.Need-enum-told Inv-loop μ-loop
 enum-told c = search needs
 
+tally-of-requires : tie.Need-tally-of-requires Inv-loop μ-loop
+tally-of-requires c κs = search needs
+
 ended-by-requires : tie.Need-ended-by-requires Inv-loop μ-loop
 ended-by-requires c κs = search needs
 
 returns : tie.Need-returns Inv-loop μ-loop
 returns c =
-    let judged = c .before .before .before in
+    let told = c .before .before in
+    let judged = told .before .before in
     let turn = judged .before .before .before .before in
     let at = turn .before .loop in
     let stops = run-stop _ _ _ (at .i) (turn .loop-test .taken) in
-    c .ended-by .ensures ∙ sym (at .inv .runs ∙ stops _ _ _ (judged .judge .ensures) (c .before .enum-told .given .1))
+    (rw (c .before .tally-of .ensures) at (c .ended-by .ensures))
+    ∙ sym (at .inv .runs ∙ stops _ _ _ (judged .judge .ensures) (told .enum-told .given .1))
 
 noted-requires : tie.Need-noted-requires Inv-loop μ-loop
 noted-requires c κs = search needs
@@ -64,13 +69,17 @@ loop-again c =
     let e = c .noted .ensures in
     going-next (at .inv) (turn .loop-test .taken) (byte .fits) _ goes _ _ _ (e .0) (e .1 .0) (e .1 .1)
 
+tally-of-requires-2 : tie.Need-tally-of-requires-2 Inv-loop μ-loop
+tally-of-requires-2 c κs = search needs
+
 opened-requires : tie.Need-opened-requires Inv-loop μ-loop
 opened-requires c κs = search needs
 
 returns-2 : tie.Need-returns-2 Inv-loop μ-loop
 returns-2 c =
-    let at = c .before .before .loop in
-    c .opened .ensures ∙ sym (at .inv .runs ∙ run-end _ _ _ (at .i) (c .before .loop-test .left) (at .inv .within))
+    let at = c .before .before .before .loop in
+    (rw (c .before .tally-of2 .ensures) at (c .opened .ensures))
+    ∙ sym (at .inv .runs ∙ run-end _ _ _ (at .i) (c .before .before .loop-test .left) (at .inv .within))
 
 pub judge-all-spec : {M : Type 1} → statement M
 judge-all-spec =
@@ -83,11 +92,13 @@ judge-all-spec =
     judge-requires
     enum-known-t
     enum-told
+    tally-of-requires
     ended-by-requires
     returns
     noted-requires
     add-i
     loop-less
     loop-again
+    tally-of-requires-2
     opened-requires
     returns-2)
