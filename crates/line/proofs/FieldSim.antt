@@ -50,7 +50,7 @@ module _ (seen : List ℕ) (late : 2 ≤ bars seen) (s : Sound seen) where
   due-is e =
       let r = rowAtHand seen in
       let known = s .known late in
-      let counts = count-row r (bars seen) e in
+      let counts = count-row r (bars seen) (known .0) e in
       split (eqb r row9999)
       (λ t. rw t (rw (eqb-true r row9999 t, due-9999 (rows seen), rows-length seen, add-one)))
       (λ t. let c = or-second (isClosing r) (eqb r row9999) counts t in

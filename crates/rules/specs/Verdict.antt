@@ -21,7 +21,8 @@ unfoldable pub judged : Fault → List ℕ → ℕ → Verdict
 judged clear seen b = stillOpen (length (lines (b ∷ seen))) (suc (length seen))
 judged (breaks number field) seen b = refused number (suc (length (lines seen))) field (length (lines seen)) (suc (length seen))
 
--- "The file is judged byte by byte. The first byte that breaks a rule decides": what was refused stays refused
+-- "The file is judged byte by byte. The first byte that breaks a rule decides": what was refused stays refused.
+-- (The verdict of bytes is never "accepted", here and below: that is the answer of a finish alone.)
 unfoldable pub verdictAfter : Verdict → List ℕ → ℕ → Verdict
 verdictAfter (stillOpen l n) seen b = judged (fault seen b) seen b
 verdictAfter (refused r line f l n) seen b = refused r line f l n
@@ -41,12 +42,13 @@ finishAfter (accepted l n) seen = accepted l n
 unfoldable pub finishVerdict : List ℕ → Verdict
 finishVerdict seen = finishAfter (verdict seen) seen
 
--- the bytes received before the first that breaks a rule
+-- whether nothing is refused
 unfoldable pub unrefused : Verdict → Bool
 unrefused (stillOpen l n) = true
 unrefused (refused r line f l n) = false
 unrefused (accepted l n) = true
 
+-- the bytes received before the first that breaks a rule
 unfoldable pub standing : List ℕ → List ℕ
 standing [] = []
 standing (b ∷ seen) = let rest = standing seen in pick (unrefused (verdict (b ∷ seen))) (b ∷ seen) rest
