@@ -20,7 +20,8 @@ use Rattle.rules.proofs.OpenLaws.{hangs-climb, ends-last}
 use Rattle.rules.proofs.OccurrenceLaws.{stamps, occurrences, stampAt, stamped, occurred, stamps-at}
 use Rattle.rules.proofs.OccurrenceLaws.{occurrences-at, under-stamps, parent-other}
 use Rattle.rules.proofs.StatedLaws.{Opened}
-use Rattle.line.specs.Machine.{withData, withoutData, startsOf, endsOf, hangsOf, standsOf, entryOf, usedOf, roomOf, misplacedOf}
+use Rattle.line.specs.Machine.{withData, withoutData, startsOf, endsOf, hangsOf, standsOf, entryOf, usedOf, roomOf}
+use Rattle.line.specs.Machine.{misplacedOf}
 use Rattle.line.proofs.HotOf.{says, lineSays, lastSays, says-early}
 
 -- 4: the row of the last line tells where a line can stand

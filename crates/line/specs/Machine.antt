@@ -15,6 +15,7 @@ use Rattle.rules.specs.Order.{isData}
 use Rattle.layout.specs.Climb.{climb}
 use Rattle.rules.specs.Rules.{byteLimit}
 use Rattle.field.specs.Streaming.{cap, emptyField, withByte, faultOf}
+use Rattle.field.specs.declared.bytes.Field.{Field}
 use Rattle.line.specs.declared.hot.Hot.{Hot}
 use Rattle.line.specs.declared.step.Step.{Step}
 use Rattle.line.specs.declared.step.Step.the-variants.{Next, Broken}
@@ -60,9 +61,9 @@ pub record Tables (rs : List (List ℕ)) (ps ks ss cs : List ℕ) : Type 0 where
   pub starts : ss ≡ startColumn
   pub slots : cs ≡ slotTable
 
--- one more byte of the field at hand
-abbrev pub grownOf : Hot → ℕ → Hot
-grownOf h b =
+-- one more byte is judged, and of the field at hand this is kept
+abbrev pub judgedWith : Hot → Field → Hot
+judgedWith h f =
     record {
       lines = h .lines;
       bytes = h .bytes + 1;
@@ -73,8 +74,12 @@ grownOf h b =
       row = h .row;
       fields = h .fields;
       kind = h .kind;
-      field = withByte (h .kind) (h .field) b;
+      field = f;
     }
+
+-- one more byte of the field at hand
+abbrev pub grownOf : Hot → ℕ → Hot
+grownOf h b = judgedWith h (withByte (h .kind) (h .field) b)
 
 -- one more bar: a field of this kind begins, in a line of this row
 abbrev pub movedOf : Hot → ℕ → ℕ → ℕ → ℕ → Hot

@@ -24,7 +24,8 @@ use Rattle.sef.specs.Calls.{openOf, stoppedOf, runOf, keptOf, unchanged,
 use Rattle.sef.specs.Ranges.{rangedOf}
 use Rattle.sef.specs.Promises.{Reached, start, more, Finishes}
 use Rattle.sef.specs.Demands as D
-use Rattle.sef.specs.Demands.{Answered, isAccepted, isRefused, InTable, isOpen, byRule, ofCall, ReportInTable, refuses, Stays}
+use Rattle.sef.specs.Demands.{Answered, isAccepted, isRefused, InTable, isOpen, byRule, ofCall, ReportInTable, refuses}
+use Rattle.sef.specs.Demands.{Stays}
 use Rattle.sef.specs.declared.state.State.{State}
 use Rattle.sef.specs.declared.answers.Numbers.{Numbers}
 use Rattle.sef.specs.declared.answers.Checked.{Checked}

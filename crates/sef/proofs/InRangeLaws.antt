@@ -7,7 +7,7 @@ use native.Mathlib.Omega.{arith}
 use lib.Dec.{eqb}
 use borrow.Author.Tests.{eqb-true, eqb-false}
 use Rattle.layout.specs.Pick.{pick}
-use Rattle.line.specs.Machine.{HotFit, mostBars}
+use Rattle.line.specs.Machine.{mostBars}
 use Rattle.sef.specs.Calls.{stateOf, openOf, stoppedOf, judgedOne, runOf, fresh, keptOf, unchanged, checkOf, finalAnswerOf}
 use Rattle.sef.specs.Calls.{closedOf, finallyUnchanged, finishOf}
 use Rattle.sef.specs.Ranges.{withinTo, lineRanged, hotRanged, mostRule, refusalRanged, tallyRanged, rangedOf, Held}
@@ -21,6 +21,7 @@ use Rattle.sef.specs.declared.answers.Finished.{Finished}
 use Rattle.sef.specs.declared.answers.Answer.the-variants as Piece
 use Rattle.sef.specs.declared.answers.FinalAnswer.the-variants as Final
 use Rattle.sef.proofs.RangeLaws.{open-ranged, broken-ranged, held-of, ranged-by}
+use Rattle.sef.proofs.StepRanges.{judged-fit}
 use Rattle.sef.proofs.RunLaws.{Comes, opens, stops-by, run-comes}
 
 pub fresh-ranged : rangedOf fresh ≡ true
@@ -33,24 +34,6 @@ unfolding openOf
 opened-ranged h t d = ranged-by (stateOf h 0 0 false t) (d .fit) (d .tally) (open-ranged (h .bytes) (d .withinLimit))
 
 -- the refusing byte is judged too
-judged-fit : (h : Hot) (t : Tally) → Held h t → HotFit (judgedOne h)
-judged-fit h t d =
-    let f = d .fit in
-    record {
-      bytes = omega (arith, d .withinLimit);
-      lines = omega (arith, f .lines);
-      last = f .last;
-      since = omega (arith, f .since);
-      says = f .says;
-      bars = f .bars;
-      row = f .row;
-      fields = f .fields;
-      kind = f .kind;
-      length = omega (arith, f .length);
-      wrong = f .wrong;
-      value = f .value;
-    }
-
 judged-tally : (h : Hot) (t : Tally) → Held h t → TallyFit t (h .bytes + 1)
 judged-tally h t d =
     let f = d .tally in
@@ -64,7 +47,8 @@ pub stopped-ranged : (h : Hot) (t : Tally) (rule field : ℕ) → Held h t → 1
     → rangedOf (stoppedOf h t rule field .state) ≡ true
 unfolding stoppedOf
 stopped-ranged h t rule field d one most named =
-    ranged-by (stateOf (judgedOne h) rule field false t) (judged-fit h t d) (judged-tally h t d)
+    ranged-by (stateOf (judgedOne h) rule field false t) (judged-fit h (d .fit) (d .withinLimit) (h .field) (omega (arith, d .fit .length)) (d .fit .wrong) (d .fit .value))
+    (judged-tally h t d)
     (broken-ranged rule field (h .bytes + 1) one most named)
 
 comes-ranged : (c : Checked) → Comes c → rangedOf (c .state) ≡ true

@@ -14,9 +14,10 @@ use Rattle.layout.specs.Kinds.{kind}
 use Rattle.layout.specs.Packed.{kindNumber, mostKind}
 use Rattle.rules.specs.Rules.{byteLimit}
 use Rattle.rules.proofs.TestLaws.{pick-le}
-use Rattle.field.specs.Streaming.{FieldFit, emptyFault, contentFault, numberFault, textFault, faultOf}
+use Rattle.field.specs.Streaming.{FieldFit, cap, emptyFault, contentFault, numberFault, textFault, faultOf}
 use Rattle.field.specs.declared.bytes.Field.{Field}
-use Rattle.line.specs.Machine.{HotFit, mostBars, withoutData, grownOf, movedOf, endedOf, sinceOf, codeBarOf, saysOf, fieldBarOf, barOf}
+use Rattle.line.specs.Machine.{HotFit, judgedWith, mostBars, withoutData, grownOf, movedOf, endedOf, sinceOf, codeBarOf, saysOf}
+use Rattle.line.specs.Machine.{fieldBarOf, barOf}
 use Rattle.line.specs.Machine.{controlOf, inFieldOf, pastOf, startOf, stepOf}
 use Rattle.sef.specs.Ranges.{mostRule}
 use Rattle.line.specs.declared.hot.Hot.{Hot}
@@ -71,6 +72,25 @@ known-least rule t = leb→le 1 rule (and-l (leb 1 rule) (leb rule mostRule) t)
 known-most : (rule : ℕ) → T (known rule) → rule ≤ mostRule
 known-most rule t = leb→le rule mostRule (and-r (leb 1 rule) (leb rule mostRule) t)
 
+-- one more byte is judged
+pub judged-fit : (h : Hot) → HotFit h → h .bytes ≤ byteLimit
+    → (g : Field) → g .length ≤ h .bytes + 1 → g .wrong ≤ 1 → g .value ≤ cap → HotFit (judgedWith h g)
+judged-fit h f limit g length wrong value =
+    record {
+      bytes = omega arith;
+      lines = omega (arith, f .lines);
+      last = f .last;
+      since = omega (arith, f .since);
+      says = f .says;
+      bars = f .bars;
+      row = f .row;
+      fields = f .fields;
+      kind = f .kind;
+      length = length;
+      wrong = wrong;
+      value = value;
+    }
+
 module _ (h : Hot) (f : HotFit h) (small : h .bytes < byteLimit) where
   -- at the field at hand, and at no field or field 1
   stops-here : (rule : ℕ) → T (known rule) → Leads h (Broken rule (h .bars))
@@ -105,22 +125,8 @@ module _ (h : Hot) (f : HotFit h) (small : h .bytes < byteLimit) where
   grown-leads b byte =
       let fit : FieldFit (h .field) = record { length = omega (arith, f .length); wrong = f .wrong; value = f .value } in
       let next = fit-after {f = h .field} {b = b} fit byte (omega (arith, f .length)) (h .kind) in
-      goes {n = grownOf h b}
-      (record {
-        bytes = omega arith;
-        lines = omega (arith, f .lines);
-        last = f .last;
-        since = omega (arith, f .since);
-        says = f .says;
-        bars = f .bars;
-        row = f .row;
-        fields = f .fields;
-        kind = f .kind;
-        length = omega (arith, f .length, one-longer (h .kind) (h .field) b);
-        wrong = next .wrong;
-        value = next .value;
-      })
-      refl small
+      let long = one-longer (h .kind) (h .field) b in
+      goes {n = grownOf h b} (judged-fit h f (omega arith) _ (omega (arith, f .length)) (next .wrong) (next .value)) refl small
 
   since-le : sinceOf h ≤ h .bytes + 1
   unfolding sinceOf

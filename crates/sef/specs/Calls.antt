@@ -8,7 +8,7 @@ use Rattle.layout.specs.Pick.{pick}
 use Rattle.layout.specs.Rows.{rowCount, none, row9999}
 use Rattle.rules.specs.Bytes.{LF}
 use Rattle.field.specs.Streaming.{emptyField}
-use Rattle.line.specs.Machine.{codeKind, codeOnly, entryOf, usedOf, stepOf}
+use Rattle.line.specs.Machine.{codeKind, codeOnly, judgedWith, entryOf, usedOf, stepOf}
 use Rattle.line.specs.declared.hot.Hot.{Hot}
 use Rattle.line.specs.declared.step.Step.{Step}
 use Rattle.line.specs.declared.step.Step.the-variants.{Next, Broken}
@@ -56,19 +56,7 @@ openOf h t = record { answer = Piece.Open (h .lines) (h .bytes); state = stateOf
 
 -- the refusing byte is judged, and changes nothing else
 abbrev pub judgedOne : Hot → Hot
-judgedOne h =
-    record {
-      lines = h .lines;
-      bytes = h .bytes + 1;
-      last = h .last;
-      since = h .since;
-      says = h .says;
-      bars = h .bars;
-      row = h .row;
-      fields = h .fields;
-      kind = h .kind;
-      field = h .field;
-    }
+judgedOne h = judgedWith h (h .field)
 
 unfoldable pub stoppedOf : Hot → Tally → ℕ → ℕ → Checked
 stoppedOf h t rule field =
