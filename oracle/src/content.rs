@@ -1,14 +1,11 @@
-//! Rules 10 to 13: what a field of a typed line holds. All of them speak
-//! of the bar that ends the field.
+//! Rules 10 to 13: what a field holds. All of them speak of the bar that
+//! ends the field.
 
 use crate::count::{expected_count, has_value};
 use crate::date::is_date;
-use crate::kinds::{kind, Kind};
+use crate::kinds::{kind, Kind, Role};
 use crate::spot::Spot;
 use crate::BAR;
-
-/// C without a size.
-const LONGEST_TEXT: usize = 255;
 
 /// 10: wrong characters or decimals in an N field.
 pub fn wrong_characters(spot: &Spot) -> Option<usize> {
@@ -24,23 +21,25 @@ pub fn wrong_size(spot: &Spot) -> Option<usize> {
     let breaks = match (kind.numeric, kind.size) {
         (true, Some(size)) => length != 0 && length != size,
         (true, None) => false,
-        (false, size) => length > size.unwrap_or(LONGEST_TEXT),
+        (false, _) => length > kind.longest_text(),
     };
     breaks.then_some(spot.field)
 }
 
 /// 12: not the fixed text, field 2 of an opening not 0 or 1, no such date.
 pub fn wrong_value(spot: &Spot) -> Option<usize> {
-    let kind = ended_kind(spot)?;
-    let other_text = kind.fixed.is_some_and(|fixed| spot.text != fixed);
-    let no_mark = kind.is_opening_mark() && spot.text != b"0" && spot.text != b"1";
-    let no_date = kind.is_date() && !spot.text.is_empty() && !is_date(spot.text);
-    (other_text || no_mark || no_date).then_some(spot.field)
+    let breaks = match ended_kind(spot)?.role {
+        Role::Fixed(text) => spot.text != text.as_bytes(),
+        Role::Mark => spot.text != b"0" && spot.text != b"1",
+        Role::Date => !spot.text.is_empty() && !is_date(spot.text),
+        Role::Plain | Role::Count => false,
+    };
+    breaks.then_some(spot.field)
 }
 
 /// 13: count empty or untrue.
 pub fn untrue_count(spot: &Spot) -> Option<usize> {
-    if !ended_kind(spot)?.is_count() {
+    if ended_kind(spot)?.role != Role::Count {
         return None;
     }
     let true_count = expected_count(spot.line_row()?, spot.before);
@@ -48,12 +47,9 @@ pub fn untrue_count(spot: &Spot) -> Option<usize> {
 }
 
 /// The kind of the field that this byte's bar ends.
-fn ended_kind(spot: &Spot) -> Option<&'static Kind> {
-    if spot.byte == BAR && spot.in_field() {
-        kind(spot.row?, spot.field)
-    } else {
-        None
-    }
+fn ended_kind(spot: &Spot) -> Option<Kind> {
+    let ends = spot.byte == BAR && spot.in_field();
+    spot.row.filter(|_| ends).map(|row| kind(row, spot.field))
 }
 
 fn is_number(text: &[u8], decimals: Option<usize>) -> bool {
@@ -72,7 +68,6 @@ fn is_number(text: &[u8], decimals: Option<usize>) -> bool {
 mod tests {
     use super::is_number;
 
-    // no typed line has a field with decimals, so the rule is tried here only
     #[test]
     fn numbers_with_decimals() {
         for good in ["0,00", "1255,42", "00,10"] {
@@ -80,6 +75,19 @@ mod tests {
         }
         for bad in [",00", "1,0", "1,000", "1.00", "1", "1,", "-1,00", "1,0,0", "1,00,"] {
             assert!(!is_number(bad.as_bytes(), Some(2)), "{bad}");
+        }
+        assert!(is_number(b"7,125", Some(3)) && !is_number(b"7,12", Some(3)));
+        assert!(is_number(b"7,000001", Some(6)) && !is_number(b"7,0000001", Some(6)));
+        let long = "9".repeat(300);
+        assert!(is_number(format!("{long},00").as_bytes(), Some(2)));
+        assert!(!is_number(format!("1,{long}").as_bytes(), Some(2)));
+    }
+
+    #[test]
+    fn numbers_without_decimals() {
+        assert!(is_number(b"0", None) && is_number(&[b'7'; 300], None));
+        for bad in ["1,", "1,0", ",", "1.0", "-1", "1 ", "x"] {
+            assert!(!is_number(bad.as_bytes(), None), "{bad}");
         }
     }
 }

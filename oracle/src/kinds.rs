@@ -1,136 +1,202 @@
-//! Kinds of the fields of the typed lines, typed from Appendix B:
-//! name, type, size and decimals of every field after the first.
+//! The kind of every field after the first. Document 01 says how many fields
+//! a row has, the row's sheet what they hold; a field that no sheet gives is
+//! a text without a size, and what a sheet gives beyond them is left out.
 
 use crate::rows::{rows, Row};
+use crate::sheets::SHEETS;
 use std::sync::OnceLock;
 
-const SHEETS: [(&str, &str); 9] = [
-    (
-        "0000",
-        "LFPD C 4 -; DT_INI N 8 -; DT_FIN N 8 -; NOME_EMPR C - -; CNPJ N 14 -; UF C 2 -; \
-         IE C - -; COD_MUN N 7 -; IM C - -; VAZIO1 C 0 -; SUFRAMA C 9 -; COD_VER N 4 -; \
-         COD_FIN N 1 -; COD_CTD N 2 -; PAIS C 6 -; FANTASIA C - -; NIRE N 11 -; CPF N 11 -; \
-         VAZIO2 C 0 -",
-    ),
-    (
-        "0005",
-        "NOME_RESP C - -; COD_ASSIN N 3 -; CPF_RESP N 11 -; CEP N 8 -; END C - -; NUM C - -; \
-         COMPL C - -; BAIRRO C - -; CEP_CP N 8 -; CP N - -; FONE C - -; FAX C - -; EMAIL C - -",
-    ),
-    ("0025", "COD_BF_ICMS C 5 -; COD_BF_ISS C 5 -"),
-    (
-        "0030",
-        "IND_ED N 1 -; IND_ARQ N 1 -; PRF_ISS N 1 -; PRF_ICMS N 1 -; PRF_RIDF N 1 -; \
-         PRF_RUDF N 1 -; PRF_LMC N 1 -; PRF_RV N 1 -; PRF_RI N 1 -; IND_EC N 1 -; \
-         IND_ISS N 1 -; IND_RT N 1 -; IND_ICMS N 1 -; IND_ST N 1 -; IND_AT N 1 -; \
-         IND_IPI N 1 -; IND_RI N 1 -",
-    ),
-    (
-        "0100",
-        "NOME C - -; COD_ASSIN N 3 -; CNPJ N 14 -; CPF N 11 -; CRC C 10 -; CEP N 8 -; \
-         END C - -; NUM C - -; COMPL C - -; BAIRRO C - -; UF C 2 -; COD_MUN N 7 -; \
-         CEP_CP N 8 -; CP N - -; FONE C - -; FAX C - -; EMAIL C - -",
-    ),
-    (
-        "0150",
-        "COD_PART C - -; NOME C - -; COD_PAIS N 5 -; CNPJ N 14 -; CPF N 11 -; VAZIO C 0 -; \
-         UF C 2 -; IE C - -; IE_ST C - -; COD_MUN N 7 -; IM C - -; SUFRAMA C 9 -",
-    ),
-    (
-        "0175",
-        "CEP N 8 -; END C - -; NUM C - -; COMPL C - -; BAIRRO C - -; CEP_CP N 8 -; CP N - -; \
-         FONE C - -; FAX C - -",
-    ),
-    ("0200", "COD_ITEM C - -; DESCR_ITEM C - -; COD_GEN N 2 -; COD_LST N 4 -"),
-    ("9999", "QTD_LIN N - -"),
-];
+/// A field that no sheet gives.
+const IN_NO_SHEET: &str = "- C - -";
 
-/// Every opening and every closing has one and the same sheet.
-const OPENING: &str = "IND_DAD N 1 -";
-const CLOSING: &str = "QTD_LIN_x N - -";
+/// C without a size.
+const LONGEST_TEXT: usize = 255;
 
-#[derive(Clone, Debug)]
+/// What a field is beyond digits or text of a size.
+#[derive(Clone, Copy, Debug, PartialEq, Eq, PartialOrd, Ord)]
+pub enum Role {
+    Plain,
+    Date,
+    /// It holds just this text.
+    Fixed(&'static str),
+    /// Field 2 of an opening.
+    Mark,
+    /// Field 2 of a closing or of 9999.
+    Count,
+}
+
+#[derive(Clone, Copy, Debug, PartialEq, Eq, PartialOrd, Ord)]
 pub struct Kind {
-    pub name: &'static str,
     pub numeric: bool,
     pub size: Option<usize>,
     pub decimals: Option<usize>,
-    /// The text the field must hold, if the rules fix one.
-    pub fixed: Option<&'static [u8]>,
+    pub role: Role,
+}
+
+pub struct Field {
+    pub name: &'static str,
+    pub kind: Kind,
 }
 
 impl Kind {
-    pub fn is_date(&self) -> bool {
-        self.name.starts_with("DT_")
+    /// The most bytes that stand in a C field.
+    pub fn longest_text(&self) -> usize {
+        self.size.unwrap_or(LONGEST_TEXT)
     }
 
-    pub fn is_opening_mark(&self) -> bool {
-        self.name == "IND_DAD"
-    }
-
-    pub fn is_count(&self) -> bool {
-        self.name.starts_with("QTD_LIN")
+    /// Type, size and decimals as the sheets write them.
+    pub fn columns(&self) -> String {
+        let number = |number: Option<usize>| number.map_or("-".into(), |number| number.to_string());
+        let letter = if self.numeric { "N" } else { "C" };
+        format!("{letter} {} {}", number(self.size), number(self.decimals))
     }
 }
 
-/// The kind of a field, counted from 1; none for field 1 and for lines not typed.
-pub fn kind(row: usize, field: usize) -> Option<&'static Kind> {
-    static KINDS: OnceLock<Vec<Vec<Kind>>> = OnceLock::new();
-    let kinds = KINDS.get_or_init(|| rows().iter().map(kinds_of_row).collect());
-    kinds[row].get(field.checked_sub(2)?)
+/// The kind of a field, counted from 1; not for field 1, which is the code.
+pub fn kind(row: usize, field: usize) -> Kind {
+    fields(row)[field - 2].kind
 }
 
-fn kinds_of_row(row: &Row) -> Vec<Kind> {
-    let sheet = sheet_of_row(row);
-    sheet.split(';').filter(|entry| !entry.is_empty()).map(|entry| read_kind(row, entry)).collect()
+/// The fields of a row after the first.
+pub fn fields(row: usize) -> &'static [Field] {
+    static FIELDS: OnceLock<Vec<Vec<Field>>> = OnceLock::new();
+    &FIELDS.get_or_init(|| rows().iter().map(fields_of_row).collect())[row]
 }
 
-fn sheet_of_row(row: &Row) -> &'static str {
-    if row.is_opening() {
-        return OPENING;
-    }
-    if row.is_closing() {
-        return CLOSING;
-    }
-    SHEETS.iter().find(|sheet| sheet.0 == row.code).map_or("", |sheet| sheet.1)
+fn fields_of_row(row: &Row) -> Vec<Field> {
+    let entries = sheet_of_row(row).chain(std::iter::repeat(IN_NO_SHEET));
+    (2..=row.fields).zip(entries).map(|(field, entry)| read_field(row, field, entry)).collect()
 }
 
-fn read_kind(row: &Row, entry: &'static str) -> Kind {
+fn sheet_of_row(row: &Row) -> impl Iterator<Item = &'static str> {
+    let sheet = SHEETS.iter().find(|sheet| sheet.0 == row.code);
+    sheet.into_iter().flat_map(|sheet| sheet.1.split(';'))
+}
+
+fn read_field(row: &Row, field: usize, entry: &'static str) -> Field {
     let columns: Vec<&'static str> = entry.split_whitespace().collect();
-    let fixed: Option<&'static [u8]> = match (row.code.as_str(), columns[0]) {
-        ("0000", "LFPD") => Some(b"LFPD"),
-        ("0000", "PAIS") => Some(b"Brasil"),
-        _ => None,
+    let [name, letter, size, decimals] = columns[..] else {
+        panic!("not a field: {entry}");
     };
-    Kind {
-        name: columns[0],
-        numeric: columns[1] == "N",
-        size: columns[2].parse().ok(),
-        decimals: columns[3].parse().ok(),
-        fixed,
+    let kind = Kind {
+        numeric: letter == "N",
+        size: size.parse().ok(),
+        decimals: decimals.parse().ok(),
+        role: role(row, field, name),
+    };
+    Field { name, kind }
+}
+
+/// Dates go by their name, all else by the row.
+fn role(row: &Row, field: usize, name: &str) -> Role {
+    match (row.code.as_str(), field) {
+        ("0000", 2) => Role::Fixed("LFPD"),
+        ("0000", 16) => Role::Fixed("Brasil"),
+        (_, 2) if row.is_opening() => Role::Mark,
+        (_, 2) if row.has_count() => Role::Count,
+        _ if name.starts_with("DT_") => Role::Date,
+        _ => Role::Plain,
     }
 }
 
 #[cfg(test)]
 mod tests {
     use super::*;
+    use crate::rows::row_with_code;
 
-    #[test]
-    fn every_sheet_has_the_fields_of_its_row() {
-        let mut typed = 0;
-        for (place, row) in rows().iter().enumerate() {
-            let fields = (2..40).filter(|&field| kind(place, field).is_some()).count();
-            assert!(fields == 0 || fields + 1 == row.fields, "{}", row.code);
-            typed += usize::from(fields > 0);
-        }
-        assert_eq!(typed, 8 + 7 + 7 + 1);
+    /// Name, type, size and decimals of a field.
+    fn written(code: &str, field: usize) -> String {
+        let Field { name, kind } = &fields(row_with_code(code.as_bytes()).unwrap())[field - 2];
+        format!("{name} {}", kind.columns())
+    }
+
+    fn all_kinds() -> impl Iterator<Item = (&'static Row, usize, Kind)> {
+        let of_row = |row| fields(row).iter().enumerate().map(move |(at, field)| (row, at + 2, field));
+        (0..98).flat_map(of_row).map(|(row, at, field)| (&rows()[row], at, field.kind))
     }
 
     #[test]
-    fn places_of_the_fixed_texts_and_dates() {
-        assert_eq!(kind(0, 2).unwrap().fixed, Some(&b"LFPD"[..]));
-        assert_eq!(kind(0, 16).unwrap().fixed, Some(&b"Brasil"[..]));
-        assert!(kind(0, 3).unwrap().is_date() && kind(0, 4).unwrap().is_date());
-        assert!(kind(0, 1).is_none());
+    fn every_row_has_just_its_fields_995_in_all() {
+        for (place, row) in rows().iter().enumerate() {
+            assert_eq!(fields(place).len() + 1, row.fields, "{}", row.code);
+        }
+        assert_eq!(all_kinds().count() + 98, 995);
+    }
+
+    /// Every sheet is of a row, and all but three have as many fields as 01 says.
+    #[test]
+    fn sheets_with_other_numbers_of_fields() {
+        let in_sheet = |row: &Row| sheet_of_row(row).count() + 1;
+        let other: Vec<(&str, usize, usize)> = rows()
+            .iter()
+            .filter(|row| in_sheet(row) != row.fields)
+            .map(|row| (row.code.as_str(), in_sheet(row), row.fields))
+            .collect();
+        assert_eq!(other, [("C305", 1, 2), ("C310", 5, 4), ("E500", 3, 4)]);
+        let codes: Vec<&str> = rows().iter().map(|row| row.code.as_str()).collect();
+        let sheets: Vec<&str> = SHEETS.iter().map(|sheet| sheet.0).collect();
+        assert!(codes.iter().filter(|&&code| code != "C305").eq(&sheets));
+    }
+
+    #[test]
+    fn where_document_01_and_the_sheets_differ() {
+        assert_eq!(written("C305", 2), "- C - -");
+        assert_eq!(written("C310", 4), "ALIQ_ISS N - 2");
+        assert_eq!(written("E500", 3), "DT_FIN N 8 -");
+        assert_eq!(written("E500", 4), "- C - -");
+    }
+
+    #[test]
+    fn some_fields_of_every_block() {
+        for (code, field, columns) in [
+            ("0000", 11, "VAZIO1 C 0 -"),
+            ("0210", 4, "QTD_COMP N - 6"),
+            ("0450", 3, "TXT C 65536 -"),
+            ("0465", 24, "VOL N - 2"),
+            ("C020", 28, "COD_INF_OBS C - -"),
+            ("C300", 6, "QTD N - 6"),
+            ("E025", 17, "IND_IMUN N 1 -"),
+            ("E350", 10, "IND_AP N - -"),
+            ("E550", 4, "IND_DOC C 1 -"),
+            ("F020", 6, "UF_GR C - -"),
+            ("F215", 11, "VL_UNIT N - 3"),
+            ("F230", 6, "VOL_AFER N - 2"),
+            ("G460", 2, "UF C 2 -"),
+            ("H030", 9, "QTD N - 6"),
+            ("9990", 2, "QTD_LIN_9 N - -"),
+        ] {
+            assert_eq!(written(code, field), columns, "{code} {field}");
+        }
+    }
+
+    #[test]
+    fn fixed_texts_marks_and_counts() {
+        let with = |wanted: fn(Role) -> bool| -> Vec<(&str, usize)> {
+            let found = all_kinds().filter(|(_, _, kind)| wanted(kind.role));
+            found.map(|(row, field, _)| (row.code.as_str(), field)).collect()
+        };
+        assert_eq!(with(|role| role == Role::Fixed("LFPD")), [("0000", 2)]);
+        assert_eq!(with(|role| role == Role::Fixed("Brasil")), [("0000", 16)]);
+        let marks = ["0001", "C001", "E001", "F001", "G001", "H001", "9001"];
+        assert_eq!(with(|role| role == Role::Mark), marks.map(|code| (code, 2)));
+        let counts = ["0990", "C990", "E990", "F990", "G990", "H990", "9990", "9999"];
+        assert_eq!(with(|role| role == Role::Count), counts.map(|code| (code, 2)));
+    }
+
+    #[test]
+    fn dates_are_all_of_8_digits() {
+        let dates: Vec<Kind> =
+            all_kinds().map(|(_, _, kind)| kind).filter(|kind| kind.role == Role::Date).collect();
+        assert!(dates.iter().all(|kind| kind.numeric && kind.size == Some(8)));
+        assert!(dates.iter().all(|kind| kind.decimals.is_none()));
+        // H020's IND_DT is none, its DT_INV is one
+        let h020 = row_with_code(b"H020").unwrap();
+        assert_eq!((kind(h020, 2).role, kind(h020, 3).role), (Role::Plain, Role::Date));
+    }
+
+    #[test]
+    fn no_kind_has_both_a_size_and_decimals() {
+        assert!(all_kinds().all(|(_, _, kind)| kind.size.is_none() || kind.decimals.is_none()));
+        assert!(all_kinds().all(|(_, _, kind)| kind.numeric || kind.decimals.is_none()));
     }
 }

@@ -15,6 +15,7 @@ pub mod rows;
 mod rules;
 mod checker;
 mod shape;
+mod sheets;
 mod spot;
 mod verdict;
 

@@ -136,13 +136,65 @@ fn control_byte_in_a_text_too_long() {
     last_byte_refused(&[&start[..], b"|"].concat(), 11, 1, 5);
 }
 
+/// Base with this line of 0450, its second text of some length.
+fn with_observation(length: usize) -> Vec<u8> {
+    let line = format!("|0450|a|{}|", "x".repeat(length));
+    file(&[BASE[0], "|0001|0|", &line, "|0990|4|", "|9001|1|", "|9990|3|", "|9999|7|"])
+}
+
 #[test]
-fn fields_of_lines_not_typed() {
-    let long = "x".repeat(70_000);
+fn length_of_an_observation() {
+    accepted(&with_observation(65_536), 7);
+    for length in [65_537, 65_791, 65_792, 131_072] {
+        refused(&with_observation(length), 11, 3, 3);
+    }
+}
+
+/// Block H with an H020 that holds these fields, up to the line's end.
+fn with_h020(fields: &str) -> Vec<u8> {
     let mut lines = upto_block("H");
-    lines.push(format!("|H020|{long}|\u{e9}{}", "|".repeat(10)));
-    lines.extend(["|H990|3|", "|9001|1|", "|9990|3|", "|9999|9|"].map(String::from));
-    accepted(&written(&lines), 9);
+    lines.push(format!("|H020|{fields}|"));
+    written(&lines)
+}
+
+#[test]
+fn amounts_dates_and_marks_of_h020() {
+    open(&with_h020("0|31122012|1,00|0,00||||||a|b"), 5);
+    open(&with_h020("9|||||||000000000000000000001,50|||"), 5);
+    for (fields, number, field) in [
+        ("x||||||||||", 10, 2),
+        ("00||||||||||", 11, 2),
+        ("|31112012|||||||||", 12, 3),
+        ("||1|||||||||", 10, 4),
+        ("|||1,0||||||||", 10, 5),
+        ("||||1,000|||||||", 10, 6),
+        ("|||||1.00||||||", 10, 7),
+        ("||||||-1,00|||||", 10, 8),
+        ("|||||||,00||||", 10, 9),
+        ("||||||||1,0,0|||", 10, 10),
+    ] {
+        refused(&with_h020(fields), number, 5, field);
+    }
+    refused(&with_h020(&format!("|||||||||{}|", "n".repeat(256))), 11, 5, 11);
+}
+
+#[test]
+fn fields_that_no_sheet_gives() {
+    let mut lines = upto_block("C");
+    lines.extend([bare("C020", 28), bare("C300", 21)]);
+    let with = |length: usize| [&lines[..], &[format!("|C305|{}|", "n".repeat(length))]].concat();
+    open(&written(&with(255)), 7);
+    refused(&written(&with(256)), 11, 7, 2);
+    let mut lines = upto_block("E");
+    lines.push("|E500|01012012|31012012|no date|".to_string());
+    open(&written(&lines), 5);
+}
+
+#[test]
+fn a_quantity_is_no_count() {
+    let mut lines = upto_block("E");
+    lines.push("|E003|PE|E025||2|".to_string());
+    open(&written(&lines), 5);
 }
 
 #[test]

@@ -25,8 +25,9 @@ fn whole_files() -> Vec<File> {
 }
 
 fn second_lines() -> Vec<File> {
-    let lines: [&[u8]; 10] = [
+    let lines: [&[u8]; 11] = [
         b"|0001|\r\n",
+        b"|0001|\n",
         b"|0001|1||\r\n",
         b"|0001|1\r\n",
         b"|0001|1|\n",
@@ -104,6 +105,7 @@ fn other_rules() -> Vec<File> {
         file("code in lower case", base_until(4, b"|c001|")),
         file("no code", base_until(2, b"||")),
         file("a bar and CR", base_until(2, b"|\r")),
+        file("a bar and LF", base_until(2, b"|\n")),
         file("count with a letter", base_field(3, 2, b"3x")),
         file("opening mark with a letter", base_field(2, 2, b"x")),
         file("only a bar", b"|".to_vec()),

@@ -54,8 +54,8 @@ fn many_lines() -> Vec<File> {
 }
 
 fn long_fields() -> Vec<File> {
-    let untyped = |length: usize| {
-        let line = [b"|0400|", &vec![b'x'; length][..], b"|||\r\n|0990|4|\r\n"].concat();
+    let observation = |length: usize| {
+        let line = [b"|0450||", &vec![b'x'; length][..], b"|\r\n|0990|4|\r\n"].concat();
         base_until(
             2,
             &[b"|0001|0|\r\n", &line[..], &written(&["|9001|1|", "|9990|3|", "|9999|7|"])].concat(),
@@ -63,8 +63,11 @@ fn long_fields() -> Vec<File> {
     };
     let code = |length: usize| base_until(2, &[b"|0001", &vec![b'0'; length][..], b"|"].concat());
     vec![
-        file("field of 70000 bytes in a line not typed", untyped(70_000)),
-        file("field of 65536 bytes in a line not typed", untyped(65_536)),
+        file("observation of 65535 bytes", observation(65_535)),
+        file("observation of 65536 bytes", observation(65_536)),
+        file("observation of 65537 bytes", observation(65_537)),
+        file("observation of 65800 bytes", observation(65_800)),
+        file("observation of 131072 bytes", observation(131_072)),
         file("text of 65536 bytes", base_field(1, 5, &[b'n'; 65_536])),
         file("text of 65546 bytes", base_field(1, 5, &[b'n'; 65_546])),
         file("number of 65550 digits", base_field(1, 6, &[b'7'; 65_550])),

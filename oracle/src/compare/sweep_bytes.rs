@@ -27,11 +27,11 @@ fn value_files(byte: u8) -> Vec<File> {
         at("after CR", second(b"|0001|1|\r")),
         at("after LF", second(b"|0001|1|\r\n")),
         at("after the end", [base(), vec![byte]].concat()),
-        at("in a line not typed", base_until(2, &untyped_line(byte))),
+        at("in texts of a data line", base_until(2, &data_line(byte))),
     ]
 }
 
-fn untyped_line(byte: u8) -> Vec<u8> {
+fn data_line(byte: u8) -> Vec<u8> {
     [b"|0001|0|\r\n|0400|", &[byte][..], b"|x", &[byte], b"||\r\n|0990|4|\r\n"].concat()
 }
 

@@ -1,21 +1,24 @@
-//! Every typed field at both sides of each of its rules, and field 2 of
-//! every opening.
+//! Fields at both sides of each of their rules, and field 2 of every opening.
 
 use super::base::{file, File};
 use crate::generate::content_cases::edge_fields;
 use crate::generate::tree::{good_file_with, TIGHT};
 use crate::generate::Random;
-use crate::kinds::{kind, Kind};
+use crate::kinds::{kind, Kind, Role};
 use crate::rows::rows;
 
 /// Added to a length so that a width of 8 bits would take it for the right one.
 const WRAP: usize = 256;
 
+/// The rows whose fields are swept.
+pub const SWEPT: [&str; 8] = ["0000", "0005", "0025", "0030", "0100", "0150", "0175", "0200"];
+
 pub fn field_files(random: &mut Random) -> Vec<File> {
     let mut files = Vec::new();
-    for (row, field) in edge_fields() {
-        let kind = kind(row, field).expect("a typed field");
-        files.extend(values(kind).iter().map(|value| with_value(random, row, field, value)));
+    let swept = |row: usize| SWEPT.contains(&rows()[row].code.as_str());
+    for (row, field) in edge_fields().into_iter().filter(|&(row, _)| swept(row)) {
+        let values = values(kind(row, field));
+        files.extend(values.iter().map(|value| with_value(random, row, field, value)));
     }
     for row in (0..rows().len()).filter(|&row| rows()[row].is_opening()) {
         let marks =
@@ -35,16 +38,15 @@ fn with_value(random: &mut Random, row: usize, field: usize, value: &[u8]) -> Fi
     file(kind, draft.write())
 }
 
-fn values(kind: &Kind) -> Vec<Vec<u8>> {
+fn values(kind: Kind) -> Vec<Vec<u8>> {
     let mut values = match kind.numeric {
         true => numbers(kind.size),
-        false => texts(kind.size.unwrap_or(255)),
+        false => texts(kind.longest_text()),
     };
-    if kind.is_date() {
-        values.extend(dates().into_iter().map(String::into_bytes));
-    }
-    if let Some(fixed) = kind.fixed {
-        values.extend(near_fixed(fixed));
+    match kind.role {
+        Role::Date => values.extend(dates().into_iter().map(String::into_bytes)),
+        Role::Fixed(text) => values.extend(near_fixed(text.as_bytes())),
+        _ => {}
     }
     values
 }

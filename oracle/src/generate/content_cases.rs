@@ -1,4 +1,4 @@
-//! Files with one field of a typed line at an edge (rules 10 to 12).
+//! Files with one field at an edge (rules 10 to 12).
 
 use super::edge_values::edge_value;
 use super::random::Random;
@@ -6,8 +6,8 @@ use super::tree::{good_file_with, TIGHT};
 use crate::kinds::kind;
 use crate::rows::rows;
 
-/// A typed line's field at an edge of its kind. Counts have their own cases.
-pub fn typed_field(random: &mut Random, room: usize) -> Vec<u8> {
+/// A field at an edge of its kind. Counts have their own cases.
+pub fn any_field(random: &mut Random, room: usize) -> Vec<u8> {
     let (row, field) = *random.pick(&edge_fields());
     with_field_at_edge(random, room, row, field)
 }
@@ -29,13 +29,12 @@ pub fn opening_mark(random: &mut Random, room: usize) -> Vec<u8> {
     draft.write()
 }
 
-/// Row and field of every typed field, but for marks of openings and counts.
+/// Row and field of every field after the code, but for marks of openings and counts.
 pub fn edge_fields() -> Vec<(usize, usize)> {
     let plain = |row: &usize| !rows()[*row].has_count() && !rows()[*row].is_opening();
     (0..rows().len())
         .filter(plain)
         .flat_map(|row| (2..=rows()[row].fields).map(move |field| (row, field)))
-        .filter(|&(row, field)| kind(row, field).is_some())
         .collect()
 }
 
@@ -44,6 +43,6 @@ fn with_field_at_edge(random: &mut Random, room: usize, row: usize, field: usize
     let room = if random.percent(70) { TIGHT } else { room.min(200) };
     let mut draft = good_file_with(random, room, row);
     let place = *random.pick(&draft.places_of(rows()[row].code.as_bytes()));
-    draft.lines[place].fields[field - 1] = edge_value(random, kind(row, field).unwrap());
+    draft.lines[place].fields[field - 1] = edge_value(random, kind(row, field));
     draft.write()
 }

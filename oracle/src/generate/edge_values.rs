@@ -2,19 +2,14 @@
 
 use super::fill::good_date;
 use super::random::Random;
-use crate::kinds::Kind;
+use crate::kinds::{Kind, Role};
 
-pub fn edge_value(random: &mut Random, kind: &Kind) -> Vec<u8> {
-    if kind.is_date() && random.percent(70) {
-        return edge_date(random);
-    }
-    if let Some(fixed) = kind.fixed {
-        return edge_fixed(random, fixed);
-    }
-    if kind.numeric {
-        edge_number(random, kind.size)
-    } else {
-        edge_text(random, kind.size)
+pub fn edge_value(random: &mut Random, kind: Kind) -> Vec<u8> {
+    match kind.role {
+        Role::Date if random.percent(70) => edge_date(random),
+        Role::Fixed(text) => edge_fixed(random, text.as_bytes()),
+        _ if kind.numeric => edge_number(random, kind.size),
+        _ => edge_text(random, kind.size),
     }
 }
 

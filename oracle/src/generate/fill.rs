@@ -2,7 +2,7 @@
 
 use super::draft::DraftLine;
 use super::random::Random;
-use crate::kinds::{kind, Kind};
+use crate::kinds::{kind, Kind, Role};
 use crate::rows::rows;
 
 /// How full the fields are.
@@ -19,46 +19,33 @@ pub struct Fullness {
 pub fn good_line(random: &mut Random, row: usize, fullness: Fullness) -> DraftLine {
     let mut fields = vec![rows()[row].code.clone().into_bytes()];
     for field in 2..=rows()[row].fields {
-        fields.push(match kind(row, field) {
-            Some(kind) => good_field(random, kind, fullness),
-            None => any_field(random, fullness),
-        });
+        fields.push(good_field(random, kind(row, field), fullness));
     }
     DraftLine::new(fields)
 }
 
-fn good_field(random: &mut Random, kind: &Kind, fullness: Fullness) -> Vec<u8> {
-    if let Some(fixed) = kind.fixed {
-        return fixed.to_vec();
-    }
-    if kind.is_opening_mark() || kind.is_count() {
-        return b"1".to_vec();
-    }
-    if !random.percent(fullness.filled) {
-        return Vec::new();
-    }
-    match (kind.numeric, kind.size) {
-        (true, _) if kind.is_date() => good_date(random),
-        (true, Some(size)) => random.digits(size),
-        (true, None) => {
-            let length = random.between(1, fullness.longest.max(1));
-            random.digits(length)
-        }
-        (false, size) => {
-            let length = random.below(size.unwrap_or(255).min(fullness.longest) + 1);
+fn good_field(random: &mut Random, kind: Kind, fullness: Fullness) -> Vec<u8> {
+    match kind.role {
+        Role::Fixed(text) => text.into(),
+        Role::Mark | Role::Count => b"1".to_vec(),
+        _ if !random.percent(fullness.filled) => Vec::new(),
+        Role::Date => good_date(random),
+        Role::Plain if kind.numeric => good_number(random, kind, fullness.longest),
+        Role::Plain => {
+            let length = random.below(kind.longest_text().min(fullness.longest) + 1);
             random.text(length)
         }
     }
 }
 
-/// Fields of lines not typed may hold any allowed bytes at any length.
-fn any_field(random: &mut Random, fullness: Fullness) -> Vec<u8> {
-    if !random.percent(fullness.filled) {
-        return Vec::new();
+fn good_number(random: &mut Random, kind: Kind, longest: usize) -> Vec<u8> {
+    let length = kind.size.unwrap_or_else(|| random.between(1, longest.max(1)));
+    let mut number = random.digits(length);
+    if let Some(decimals) = kind.decimals {
+        number.push(b',');
+        number.extend(random.digits(decimals));
     }
-    let longest = if random.percent(2) { fullness.longest * 4 } else { fullness.longest };
-    let length = random.below(longest + 1);
-    random.text(length)
+    number
 }
 
 pub fn good_date(random: &mut Random) -> Vec<u8> {

@@ -34,7 +34,7 @@ const MIX: [(usize, &str, Family); 30] = [
     (8, "one more", place_cases::one_more),
     (7, "row repeated", place_cases::row_repeated),
     (1, "many C300", place_cases::many_c300),
-    (18, "typed field", content_cases::typed_field),
+    (18, "any field", content_cases::any_field),
     (9, "first line", content_cases::first_line),
     (5, "opening mark", content_cases::opening_mark),
     (11, "count", count_cases::count),
