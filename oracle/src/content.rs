@@ -52,7 +52,7 @@ fn ended_kind(spot: &Spot) -> Option<Kind> {
     spot.row.filter(|_| ends).map(|row| kind(row, spot.field))
 }
 
-fn is_number(text: &[u8], decimals: Option<usize>) -> bool {
+pub(crate) fn is_number(text: &[u8], decimals: Option<usize>) -> bool {
     let digits = |part: &[u8]| part.iter().all(u8::is_ascii_digit);
     let Some(decimals) = decimals else {
         return digits(text);

@@ -48,7 +48,7 @@ fn good_families_are_accepted() {
         let mut tried = 0;
         for seed in 0..1500 {
             let case = case(seed, max_len);
-            if ["good", "all bytes", "zeros everywhere"].contains(&case.name) {
+            if ["good", "full line", "all bytes", "zeros everywhere"].contains(&case.name) {
                 tried += 1;
                 assert_eq!(refusal_number(finish(&case.bytes)), 0, "seed {seed} {}", case.name);
             }

@@ -1,6 +1,8 @@
 //! Files with one field at an edge (rules 10 to 12).
 
+use super::draft::Draft;
 use super::edge_values::edge_value;
+use super::fill::{good_line, Fullness};
 use super::random::Random;
 use super::tree::{good_file_with, TIGHT};
 use crate::kinds::kind;
@@ -10,6 +12,12 @@ use crate::rows::rows;
 pub fn any_field(random: &mut Random, room: usize) -> Vec<u8> {
     let (row, field) = *random.pick(&edge_fields());
     with_field_at_edge(random, room, row, field)
+}
+
+/// Every field of one line filled, all of them good.
+pub fn full_line(random: &mut Random, _room: usize) -> Vec<u8> {
+    let (row, _) = *random.pick(&edge_fields());
+    with_full_line(random, row).write()
 }
 
 /// Dates and fixed texts of 0000.
@@ -38,10 +46,20 @@ pub fn edge_fields() -> Vec<(usize, usize)> {
         .collect()
 }
 
+fn with_full_line(random: &mut Random, row: usize) -> Draft {
+    let mut draft = good_file_with(random, TIGHT, row);
+    let place = draft.places_of(rows()[row].code.as_bytes())[0];
+    draft.lines[place] = good_line(random, row, Fullness { filled: 100, longest: 3 });
+    draft
+}
+
 fn with_field_at_edge(random: &mut Random, room: usize, row: usize, field: usize) -> Vec<u8> {
     // long values take most of the room of a small file
-    let room = if random.percent(70) { TIGHT } else { room.min(200) };
-    let mut draft = good_file_with(random, room, row);
+    let mut draft = match random.below(10) {
+        0..=5 => good_file_with(random, TIGHT, row),
+        6 | 7 => with_full_line(random, row),
+        _ => good_file_with(random, room.min(200), row),
+    };
     let place = *random.pick(&draft.places_of(rows()[row].code.as_bytes()));
     draft.lines[place].fields[field - 1] = edge_value(random, kind(row, field));
     draft.write()

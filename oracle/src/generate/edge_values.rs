@@ -1,5 +1,6 @@
 //! Values at the edge of what a kind of field allows, on both sides.
 
+use super::amounts::edge_amount;
 use super::fill::good_date;
 use super::random::Random;
 use crate::kinds::{Kind, Role};
@@ -8,17 +9,21 @@ pub fn edge_value(random: &mut Random, kind: Kind) -> Vec<u8> {
     match kind.role {
         Role::Date if random.percent(70) => edge_date(random),
         Role::Fixed(text) => edge_fixed(random, text.as_bytes()),
-        _ if kind.numeric => edge_number(random, kind.size),
-        _ => edge_text(random, kind.size),
+        _ if !kind.numeric => edge_text(random, kind.longest_text()),
+        _ => match kind.decimals {
+            Some(decimals) => edge_amount(random, decimals),
+            None => edge_number(random, kind.size),
+        },
     }
 }
 
-/// Lengths at and past the limit.
-fn edge_text(random: &mut Random, size: Option<usize>) -> Vec<u8> {
-    let length = match size {
-        None => random.between(254, 257),
-        Some(_) if random.percent(10) => random.between(254, 257),
-        Some(size) => random.between(size.saturating_sub(1), size + 1),
+/// Lengths at and past the limit, and at that of texts without a size.
+fn edge_text(random: &mut Random, most: usize) -> Vec<u8> {
+    // a text of 65536 fits in few files, so that most are far shorter
+    let other = if most > 1000 { 95 } else { 10 };
+    let length = match random.percent(other) {
+        true => *random.pick(&[0, 254, 255, 256, 257, 300]),
+        false => random.between(most.saturating_sub(1), most + 1),
     };
     let byte = random.field_byte();
     match random.below(3) {

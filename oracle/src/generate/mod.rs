@@ -1,6 +1,7 @@
 //! Test files from a seed: good ones of all shapes, and damaged ones for
 //! every rule on both its sides.
 
+pub(crate) mod amounts;
 pub(crate) mod big;
 pub(crate) mod content_cases;
 mod count_cases;
