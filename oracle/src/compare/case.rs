@@ -15,8 +15,8 @@ pub struct Case {
     pub commands: Vec<Command>,
 }
 
-/// What cases there are: every other one is of the swept files as long as
-/// they last, all others come by chance.
+/// What cases there are: two of three are of the swept files as long as they
+/// last, all others come by chance.
 pub struct Plan {
     seed: u64,
     swept: Vec<File>,
@@ -30,15 +30,21 @@ impl Plan {
 
     /// How many cases it takes to have all swept files among them.
     pub fn full(&self) -> usize {
-        2 * self.swept.len()
+        self.swept.len().div_ceil(2) * 3
+    }
+
+    /// The swept file of a case, if it has one.
+    fn swept(&self, number: usize) -> Option<&File> {
+        let place = number / 3 * 2 + number % 3;
+        self.swept.get(place).filter(|_| number % 3 < 2)
     }
 
     pub fn case(&self, number: usize) -> Case {
         let seed = self.case_seed(number);
         let mut random = Random::from_seed(seed);
-        let file = match (number % 2, self.swept.get(number / 2)) {
-            (0, Some(file)) => file.clone(),
-            _ => chance_file(&mut random),
+        let file = match self.swept(number) {
+            Some(file) => file.clone(),
+            None => chance_file(&mut random),
         };
         // there are so many pairs that few of them can be fed at length
         let simple = file.kind.starts_with("pair") && random.percent(90);
@@ -141,9 +147,9 @@ mod tests {
     #[test]
     fn long_files_have_pieces_of_the_greatest_length() {
         let plan = Plan::new(5);
-        let long = |number: &usize| plan.swept[number / 2].bytes.len() > 200_000;
+        let long = |&number: &usize| plan.swept(number).is_some_and(|file| file.bytes.len() > 200_000);
         let cases: Vec<Case> =
-            (0..plan.full()).step_by(2).filter(long).map(|number| plan.case(number)).collect();
+            (0..plan.full()).filter(long).map(|number| plan.case(number)).collect();
         let longest = |command: &Command| command.length() == LONGEST_PIECE;
         assert_eq!(cases.len(), 3);
         assert!(cases.iter().all(|case| case.commands.iter().any(longest)));
@@ -151,7 +157,10 @@ mod tests {
 
     #[test]
     fn a_run_has_all_swept_files_if_no_number_is_given() {
-        assert!(Plan::new(1).full() <= DEFAULT_CASES);
+        let plan = Plan::new(1);
+        assert!(plan.full() <= DEFAULT_CASES);
+        let swept = (0..DEFAULT_CASES).filter(|&number| plan.swept(number).is_some()).count();
+        assert_eq!(swept, plan.swept.len());
     }
 
     #[test]

@@ -10,6 +10,7 @@ mod cuts;
 mod difference;
 mod expected;
 mod feed;
+mod field_values;
 mod known;
 mod long_files;
 mod options;

@@ -34,7 +34,6 @@ pub fn swept_files(random: &mut Random) -> Vec<File> {
 #[cfg(test)]
 mod tests {
     use super::*;
-    use crate::compare::sweep_fields::SWEPT;
     use crate::kinds::{kind, Kind, Role};
     use crate::rows::{row_with_code, rows};
     use crate::{counts, finish, Final};
@@ -80,8 +79,7 @@ mod tests {
         // deeper rows have no open parent right after an opening: 4 goes first
         wanted.extend((row.level == 2 || row.is_closing()).then_some((5, place, 1)));
         wanted.extend((row.is_data() && row.limit.is_some()).then_some((6, place, 1)));
-        let swept = !row.is_data() || SWEPT.contains(&row.code.as_str());
-        for field in (2..=fields).filter(|_| swept) {
+        for field in 2..=fields {
             let numbers = numbers_of(kind(place, field as usize));
             wanted.extend(numbers.into_iter().map(|number| (number, place, field)));
         }
@@ -89,7 +87,7 @@ mod tests {
     }
 
     #[test]
-    fn every_row_and_swept_field_is_refused_in_every_way() {
+    fn every_row_and_field_is_refused_in_every_way() {
         let (refusals, accepted) = what_comes_up();
         assert_eq!(accepted.len(), 98);
         let wanted = (0..98).flat_map(wanted_of_row);

@@ -1,0 +1,141 @@
+//! Values to try in a field of some kind, at both sides of its rules.
+
+use crate::generate::amounts::{bad_amounts, good_amounts};
+use crate::kinds::{Kind, Role};
+
+/// Added to a length so that a width of 8 bits would take it for the right one.
+const WRAP: usize = 256;
+
+/// Texts with a greater size have files of their own, being so long.
+const LONGEST_SWEPT: usize = 1000;
+
+/// How many of the bad amounts are tried at every field.
+const NEAR_AMOUNTS: usize = 5;
+
+pub struct Values {
+    /// They stand. The first three are not too long for a line full of them.
+    pub good: Vec<Vec<u8>>,
+    /// They are refused, and tried at every field.
+    pub near: Vec<Vec<u8>>,
+    /// On either side, tried at a few fields of the kind.
+    pub others: Vec<Vec<u8>>,
+}
+
+pub fn values(kind: Kind) -> Values {
+    match (kind.role, kind.decimals, kind.size) {
+        (Role::Fixed(text), ..) => fixed_texts(text.as_bytes()),
+        (Role::Date, ..) => dates(),
+        _ if !kind.numeric => texts(kind.longest_text()),
+        (_, Some(decimals), _) => amounts(decimals),
+        (_, _, Some(size)) => numbers_of_size(size),
+        _ => numbers(),
+    }
+}
+
+fn amounts(decimals: usize) -> Values {
+    let mut near = bad_amounts(decimals);
+    let others = near.split_off(NEAR_AMOUNTS);
+    Values { good: good_amounts(decimals), near, others }
+}
+
+fn numbers_of_size(size: usize) -> Values {
+    let good = [b'7', b'0', b'9'].map(|digit| vec![digit; size]).to_vec();
+    let mut near = vec![vec![b'1'; size + 1], with_byte(size, size / 2, b'x')];
+    if size > 1 {
+        near.push(vec![b'1'; size - 1]);
+    }
+    let mut others = wrong_characters(size);
+    others.push(vec![b'1'; size + WRAP]);
+    // wrong in characters and in size: the lower number decides
+    others.push(vec![b'x'; size + 1]);
+    Values { good, near, others }
+}
+
+fn numbers() -> Values {
+    let good = [1, 4, 21, 255, 256, 300].map(|length| vec![b'7'; length]).to_vec();
+    let near = vec![b"7x7".to_vec(), b"7,0".to_vec()];
+    let mut others = wrong_characters(4);
+    others.push(with_byte(300, 299, b'x'));
+    Values { good, near, others }
+}
+
+/// Digits with one other byte among them: neighbours of the digits, signs,
+/// points, and 178, which is a small 2 in Latin-1.
+fn wrong_characters(length: usize) -> Vec<Vec<u8>> {
+    let last = length - 1;
+    let wrong = [
+        (0, b'/'),
+        (last, b':'),
+        (length / 2, b','),
+        (0, b' '),
+        (last, 178),
+        (0, b'-'),
+        (0, b'+'),
+        (last, b'.'),
+        (last, b' '),
+    ];
+    wrong.map(|(place, byte)| with_byte(length, place, byte)).to_vec()
+}
+
+fn with_byte(length: usize, place: usize, byte: u8) -> Vec<u8> {
+    let mut value = vec![b'7'; length];
+    value[place] = byte;
+    value
+}
+
+fn texts(most: usize) -> Values {
+    if most > LONGEST_SWEPT {
+        let good = [300, 1, 256].map(|length| vec![b'n'; length]).to_vec();
+        return Values { good, near: Vec::new(), others: vec![vec![b'n'; 512]] };
+    }
+    let mut good = vec![vec![b'n'; most], vec![255; most], vec![b'n'; most.min(1)]];
+    good.push(vec![b'n'; most.saturating_sub(1)]);
+    good.extend([127, 128, 159, 160].map(|byte| vec![byte; most]));
+    let mut near = vec![vec![b'n'; most + 1]];
+    if most < 255 {
+        near.push(vec![b'n'; 255]);
+    }
+    let mut others = [256, 512, most + WRAP].map(|length| vec![b'n'; length]).to_vec();
+    others.extend([128, 255].map(|byte| vec![byte; most + 1]));
+    Values { good, near, others }
+}
+
+fn dates() -> Values {
+    let bytes = |dates: &[&str]| dates.iter().map(|date| date.as_bytes().to_vec()).collect();
+    let good = bytes(&["29022012", "31122099", "01011900"]);
+    let near = bytes(&["2902201", "290220120", "2902201x", "29022011", "31042012"]);
+    let mut others = numbers_of_size(8).others;
+    others.extend(calendar().into_iter().map(String::into_bytes));
+    Values { good, near, others }
+}
+
+/// First and last days of all months, leap years or not, years at the limits.
+fn calendar() -> Vec<String> {
+    let mut dates = Vec::new();
+    for month in 0..=13 {
+        dates.extend([0, 1, 30, 31, 32].map(|day| format!("{day:02}{month:02}2011")));
+    }
+    for year in [1899, 1900, 1904, 1999, 2000, 2011, 2012, 2096, 2099, 2100] {
+        dates.extend(["0101", "2802", "2902", "3002", "3112"].map(|day| format!("{day}{year}")));
+    }
+    dates.extend(["00000000", "99999999", "01010000", "20120101"].map(String::from));
+    dates
+}
+
+fn fixed_texts(fixed: &[u8]) -> Values {
+    let near = vec![[fixed, b" "].concat(), fixed.to_ascii_lowercase(), Vec::new()];
+    let mut others = vec![
+        fixed.to_ascii_uppercase(),
+        fixed[..fixed.len() - 1].to_vec(),
+        fixed[1..].to_vec(),
+        [fixed, fixed].concat(),
+        vec![b'n'; fixed.len()],
+        vec![b'n'; fixed.len() + WRAP],
+    ];
+    for place in 0..fixed.len() {
+        let mut value = fixed.to_vec();
+        value[place] ^= 1;
+        others.push(value);
+    }
+    Values { good: vec![fixed.to_vec()], near, others }
+}
