@@ -4,6 +4,8 @@
 
 use crate::rows::{rows, Row};
 use crate::sheets::SHEETS;
+use std::collections::BTreeMap;
+use std::fmt;
 use std::sync::OnceLock;
 
 /// A field that no sheet gives.
@@ -44,12 +46,54 @@ impl Kind {
         self.size.unwrap_or(LONGEST_TEXT)
     }
 
+    /// Whether something can stand in it.
+    pub fn can_be_filled(&self) -> bool {
+        self.numeric || self.size != Some(0)
+    }
+
+    /// Whether it can be refused by this number of those that go by what a
+    /// field holds.
+    pub fn can_be_refused_by(&self, number: u8) -> bool {
+        match number {
+            10 => self.numeric,
+            11 => !self.numeric || self.size.is_some(),
+            12 => !matches!(self.role, Role::Plain | Role::Count),
+            13 => self.role == Role::Count,
+            _ => false,
+        }
+    }
+
     /// Type, size and decimals as the sheets write them.
     pub fn columns(&self) -> String {
         let number = |number: Option<usize>| number.map_or("-".into(), |number| number.to_string());
         let letter = if self.numeric { "N" } else { "C" };
         format!("{letter} {} {}", number(self.size), number(self.decimals))
     }
+}
+
+impl fmt::Display for Kind {
+    fn fmt(&self, to: &mut fmt::Formatter) -> fmt::Result {
+        match (self.role, self.size, self.decimals) {
+            (Role::Date, ..) => write!(to, "date"),
+            (Role::Fixed(text), ..) => write!(to, "{text}"),
+            (Role::Mark, ..) => write!(to, "opening mark"),
+            (Role::Count, ..) => write!(to, "count"),
+            _ if !self.numeric => write!(to, "C at most {}", self.longest_text()),
+            (_, Some(1), _) => write!(to, "N of 1 digit"),
+            (_, Some(size), _) => write!(to, "N of {size} digits"),
+            (_, _, Some(decimals)) => write!(to, "N with {decimals} decimals"),
+            _ => write!(to, "N"),
+        }
+    }
+}
+
+/// Every kind there is, with the number of its fields.
+pub fn distinct_kinds() -> BTreeMap<Kind, usize> {
+    let mut kinds = BTreeMap::new();
+    for field in (0..rows().len()).flat_map(fields) {
+        *kinds.entry(field.kind).or_default() += 1;
+    }
+    kinds
 }
 
 /// The kind of a field, counted from 1; not for field 1, which is the code.
@@ -136,6 +180,17 @@ mod tests {
         let codes: Vec<&str> = rows().iter().map(|row| row.code.as_str()).collect();
         let sheets: Vec<&str> = SHEETS.iter().map(|sheet| sheet.0).collect();
         assert!(codes.iter().filter(|&&code| code != "C305").eq(&sheets));
+    }
+
+    #[test]
+    fn fields_of_each_kind() {
+        let kinds = distinct_kinds();
+        assert_eq!(kinds.values().sum::<usize>(), 995 - 98);
+        let names: std::collections::BTreeSet<String> = kinds.keys().map(Kind::to_string).collect();
+        assert_eq!(names.len(), kinds.len());
+        let number = |name: &str| kinds.iter().find(|kind| kind.0.to_string() == name).unwrap().1;
+        assert_eq!((*number("LFPD"), *number("opening mark"), *number("count")), (1, 7, 8));
+        assert_eq!((*number("C at most 65536"), *number("N with 6 decimals")), (1, 10));
     }
 
     #[test]

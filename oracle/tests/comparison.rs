@@ -51,7 +51,16 @@ fn the_oracle_equals_itself() {
     assert!(output.status.success(), "{text}");
     let last = text.lines().last().unwrap_or_default();
     assert!(last.starts_with("compare: 42000 cases, ") && last.ends_with(" answers, all equal"));
+    assert!(text.contains("  N with 2 decimals ") && text.contains("  C at most 65536 "), "{text}");
     assert!(!keep.exists());
+}
+
+#[test]
+fn short_runs_need_not_meet_every_kind() {
+    let output = compare(STAND_IN, &kept("short"), &["--cases", "499"]);
+    assert!(output.status.success() && text(&output).contains("too few cases: from 500 on"));
+    let output = compare(STAND_IN, &kept("short"), &["--cases", "500"]);
+    assert!(output.status.success() && !text(&output).contains("too few cases"));
 }
 
 #[test]

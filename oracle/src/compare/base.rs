@@ -11,15 +11,27 @@ pub const BASE: [&str; 6] = [
     "|9999|6|",
 ];
 
+/// How a file is fed.
+#[derive(Clone, Copy, PartialEq, Eq)]
+pub enum Feed {
+    /// In all ways of cutting, with much asked around it.
+    AtLength,
+    /// Most often in one round with little asked.
+    MostlyShort,
+    /// In one round, and never finished too early.
+    Plainly,
+}
+
 /// A file fed in a case, and what it is about.
 #[derive(Clone)]
 pub struct File {
     pub kind: String,
     pub bytes: Vec<u8>,
+    pub feed: Feed,
 }
 
 pub fn file(kind: impl Into<String>, bytes: Vec<u8>) -> File {
-    File { kind: kind.into(), bytes }
+    File { kind: kind.into(), bytes, feed: Feed::AtLength }
 }
 
 /// Lines with CR LF after each.

@@ -1,6 +1,6 @@
 //! Cases, each the same for the same seed and number.
 
-use super::base::File;
+use super::base::{Feed, File};
 use super::chance::{chance_file, small_file};
 use super::command::Command;
 use super::cuts::{cut_file, cut_simply};
@@ -46,8 +46,11 @@ impl Plan {
             Some(file) => file.clone(),
             None => chance_file(&mut random),
         };
-        // there are so many pairs that few of them can be fed at length
-        let simple = file.kind.starts_with("pair") && random.percent(90);
+        let simple = match file.feed {
+            Feed::AtLength => false,
+            Feed::MostlyShort => random.percent(90),
+            Feed::Plainly => true,
+        };
         made_case(number, seed, file, random, simple)
     }
 
@@ -79,7 +82,7 @@ fn made_case(number: usize, seed: u64, file: File, mut random: Random, simple: b
         true => cut_simply(&mut random, &file.bytes),
         false => cut_file(&mut random, &file.bytes),
     };
-    let long_end = !simple || random.percent(10);
+    let long_end = file.feed != Feed::Plainly && (!simple || random.percent(10));
     let commands = commands(&mut random, &file.bytes, rounds, long_end);
     Case { number, seed, kind: format!("{}; {way}", file.kind), commands }
 }

@@ -30,7 +30,8 @@ impl Command {
         }
     }
 
-    fn bytes(&self) -> &[u8] {
+    /// The piece; nothing for other commands.
+    pub fn bytes(&self) -> &[u8] {
         match self {
             Command::Piece(bytes) => bytes,
             _ => &[],

@@ -1,7 +1,13 @@
 //! What a run came to.
 
+use super::kind_tally::KindTally;
+
 /// Every refusal number that some case must end with.
 const NUMBERS: std::ops::RangeInclusive<usize> = 1..=15;
+
+/// From this many cases on every kind of field must have come up: the files
+/// made for that are fed by then.
+pub const KINDS_SETTLED: usize = 500;
 
 #[derive(Default)]
 pub struct Outcome {
@@ -9,6 +15,8 @@ pub struct Outcome {
     pub answers: usize,
     /// Cases by the number of their finish; accepted ones at place 0.
     pub finals: [usize; 16],
+    /// What came up of each kind of field, in cases without a difference.
+    pub kinds: KindTally,
     /// Cases with an answer that differs.
     pub differing: usize,
     /// Other things wrong with the program.
@@ -17,7 +25,15 @@ pub struct Outcome {
 
 impl Outcome {
     pub fn is_good(&self) -> bool {
-        self.differing == 0 && self.complaints.is_empty() && self.missing().is_empty()
+        let all_met = self.missing().is_empty() && self.missing_kinds().is_empty();
+        self.differing == 0 && self.complaints.is_empty() && all_met
+    }
+
+    fn missing_kinds(&self) -> Vec<String> {
+        match self.cases {
+            KINDS_SETTLED.. => self.kinds.missing(),
+            _ => Vec::new(),
+        }
     }
 
     fn missing(&self) -> Vec<usize> {
@@ -29,6 +45,11 @@ impl Outcome {
         println!("final answers, in cases:");
         println!("  accepted   {:6}", self.finals[0]);
         NUMBERS.for_each(|number| println!("  refused {number:2} {:6}", self.finals[number]));
+        self.kinds.print();
+        if self.cases < KINDS_SETTLED {
+            println!("  (too few cases: from {KINDS_SETTLED} on, all that can come up must)");
+        }
+        self.missing_kinds().iter().for_each(|missing| println!("FAILURE: {missing}"));
         if !self.missing().is_empty() {
             println!("FAILURE: no case ended with {:?}", self.missing());
         }
@@ -39,6 +60,36 @@ impl Outcome {
         match self.is_good() {
             true => println!("compare: {} cases, {} answers, all equal", self.cases, self.answers),
             false => println!("compare: {} cases, {} answers, NOT GOOD", self.cases, self.answers),
+        }
+    }
+}
+
+#[cfg(test)]
+mod tests {
+    use super::*;
+    use crate::compare::case::Plan;
+    use crate::compare::kind_tally::met_in_case;
+
+    /// The outcome of that many cases, all answered rightly, with every number.
+    fn outcome(cases: usize) -> Outcome {
+        Outcome { cases, finals: [1; 16], ..Outcome::default() }
+    }
+
+    #[test]
+    fn a_kind_that_did_not_come_up_fails_a_run_that_is_not_short() {
+        assert!(outcome(KINDS_SETTLED - 1).is_good());
+        assert!(!outcome(KINDS_SETTLED).is_good());
+    }
+
+    #[test]
+    fn every_kind_has_come_up_by_then() {
+        for seed in 0..6 {
+            let plan = Plan::new(seed);
+            let mut outcome = outcome(KINDS_SETTLED);
+            for number in 0..KINDS_SETTLED {
+                outcome.kinds.add(met_in_case(&plan.case(number).commands));
+            }
+            assert!(outcome.is_good(), "seed {seed}: {:?}", outcome.missing_kinds());
         }
     }
 }

@@ -6,6 +6,7 @@ use super::case::{Case, Plan};
 use super::command::stream;
 use super::difference::Difference;
 use super::expected::{expected_texts, first_final};
+use super::kind_tally::met_in_case;
 use super::options::Options;
 use super::outcome::Outcome;
 use std::io::{self, BufRead, BufReader, Write};
@@ -66,6 +67,7 @@ fn compare_cases(
         outcome.answers += got.len();
         if got == expected {
             outcome.finals[first_final(&case.commands, &expected)] += 1;
+            outcome.kinds.add(met_in_case(&case.commands));
         } else {
             outcome.differing += 1;
             report(&Difference { case: &case, expected: &expected, got: &got }, options, &outcome)?;

@@ -7,13 +7,14 @@ use super::long_files::{c300_files, long_files};
 use super::sweep_bytes::byte_files;
 use super::sweep_counts::count_files;
 use super::sweep_fields::field_files;
+use super::sweep_kinds::kind_files;
 use super::sweep_pairs::pair_files;
 use super::sweep_places::place_files;
 use super::sweep_rows::row_files;
 use crate::generate::Random;
 
-/// The known ones first, then all others in an order made by chance, so
-/// that a short run has some of every sort.
+/// The known ones and those of each kind first, then all others in an order
+/// made by chance, so that a short run has some of every sort.
 pub fn swept_files(random: &mut Random) -> Vec<File> {
     let mut others = [
         row_files(random),
@@ -28,13 +29,13 @@ pub fn swept_files(random: &mut Random) -> Vec<File> {
     for place in (1..others.len()).rev() {
         others.swap(place, random.below(place + 1));
     }
-    [known_files(), c300_files(random), others].concat()
+    [known_files(), c300_files(random), kind_files(random), others].concat()
 }
 
 #[cfg(test)]
 mod tests {
     use super::*;
-    use crate::kinds::{kind, Kind, Role};
+    use crate::kinds::kind;
     use crate::rows::{row_with_code, rows};
     use crate::{counts, finish, Final};
     use std::collections::BTreeSet;
@@ -60,17 +61,6 @@ mod tests {
         (refusals, accepted)
     }
 
-    /// The numbers a field of this kind can be refused with.
-    fn numbers_of(kind: Kind) -> Vec<u8> {
-        let special = !matches!(kind.role, Role::Plain | Role::Count);
-        let mut numbers = Vec::new();
-        numbers.extend(kind.numeric.then_some(10));
-        numbers.extend((!kind.numeric || kind.size.is_some()).then_some(11));
-        numbers.extend(special.then_some(12));
-        numbers.extend((kind.role == Role::Count).then_some(13));
-        numbers
-    }
-
     fn wanted_of_row(place: usize) -> Vec<(u8, usize, u64)> {
         let row = &rows()[place];
         let fields = row.fields as u64;
@@ -80,8 +70,9 @@ mod tests {
         wanted.extend((row.level == 2 || row.is_closing()).then_some((5, place, 1)));
         wanted.extend((row.is_data() && row.limit.is_some()).then_some((6, place, 1)));
         for field in 2..=fields {
-            let numbers = numbers_of(kind(place, field as usize));
-            wanted.extend(numbers.into_iter().map(|number| (number, place, field)));
+            let kind = kind(place, field as usize);
+            let numbers = (10..=13).filter(|&number| kind.can_be_refused_by(number));
+            wanted.extend(numbers.map(|number| (number, place, field)));
         }
         wanted
     }

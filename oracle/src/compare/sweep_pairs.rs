@@ -1,7 +1,7 @@
 //! Every row right after every row: a line of the one, reached in the
 //! shortest way, then a line of the other.
 
-use super::base::{bare, file, written, File, BASE};
+use super::base::{bare, file, written, Feed, File, BASE};
 use crate::generate::tree::path_to;
 use crate::rows::{rows, Row};
 
@@ -20,7 +20,8 @@ pub fn pair_files() -> Vec<File> {
 fn pair_file(before: &[String], first: &Row, second: &Row) -> File {
     let last = line_after(before, second);
     let kind = format!("pair: {} after {}", second.code, first.code);
-    file(kind, written(&[before, &[last]].concat()))
+    // there are so many pairs that few of them can be fed at length
+    File { feed: Feed::MostlyShort, ..file(kind, written(&[before, &[last]].concat())) }
 }
 
 /// The fewest lines that end with one of this row. `mark` is what it says
