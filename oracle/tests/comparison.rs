@@ -66,9 +66,9 @@ fn short_runs_need_not_meet_every_kind() {
 #[test]
 fn every_fault_is_caught() {
     let faults = faults();
-    assert_eq!(faults.len(), 54);
+    assert_eq!(faults.len(), 61);
     for fault in faults.iter().filter(|fault| !SEEN_IN_LONG_RUNS.contains(&fault.as_str())) {
-        assert_caught(fault, &["--cases", "300"]);
+        assert_caught(fault, &["--cases", "500"]);
     }
 }
 
@@ -77,7 +77,7 @@ fn faults_are_caught_with_other_seeds() {
     for (fault, seed) in
         [("loses-cr", "2"), ("wraps-32", "3"), ("forgets-17", "4"), ("any-parent", "5")]
     {
-        assert_caught(fault, &["--cases", "300", "--seed", seed]);
+        assert_caught(fault, &["--cases", "500", "--seed", seed]);
     }
 }
 
@@ -85,6 +85,18 @@ fn faults_are_caught_with_other_seeds() {
 #[ignore = "takes a minute"]
 fn faults_that_long_runs_show() {
     SEEN_IN_LONG_RUNS.iter().for_each(|fault| assert_caught(fault, &[]));
+}
+
+/// A kind with a fault in it is never refused with equal answers, and the
+/// run says so.
+#[test]
+fn kinds_that_do_not_come_up_are_named() {
+    let program = format!("{STAND_IN} any-volume");
+    let output = compare(&program, &kept("any-volume-named"), &["--cases", "600"]);
+    assert_eq!(output.status.code(), Some(1));
+    let text = text(&output);
+    assert!(text.contains("FAILURE: N with 3 decimals never refused by 10"), "{text}");
+    assert!(!text.contains("N with 2 decimals never"), "{text}");
 }
 
 /// What is kept of a case shows the fault when it is fed again.

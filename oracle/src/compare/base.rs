@@ -78,6 +78,15 @@ pub fn block_start(codes: &[&str]) -> Vec<u8> {
     written(&lines)
 }
 
+/// The same with a value in a field of the last line.
+pub fn block_start_with(codes: &[&str], field: usize, value: &str) -> Vec<u8> {
+    let start = block_start(codes);
+    // behind the empty field stand the bars of the fields after it and CR LF
+    let last = row_with_code(codes[codes.len() - 1].as_bytes()).expect("a known code");
+    let (before, after) = start.split_at(start.len() - 2 - (rows()[last].fields - field + 1));
+    [before, value.as_bytes(), after].concat()
+}
+
 #[cfg(test)]
 mod tests {
     use super::*;
@@ -88,5 +97,12 @@ mod tests {
         assert_eq!(finish(&base()), Final::Accepted { lines: 6, bytes: 110 });
         assert_eq!(base_field(3, 2, b"3"), base());
         assert_eq!(base_with(2, b"|0001|1|\r\n"), base());
+    }
+
+    #[test]
+    fn a_value_in_the_last_line() {
+        let file = block_start_with(&["H020"], 4, "1,00");
+        assert!(file.ends_with(b"\r\n|H020|||1,00|||||||||\r\n"));
+        assert!(block_start_with(&["H020", "H060"], 3, "x").ends_with(b"||\r\n|H060||x|\r\n"));
     }
 }

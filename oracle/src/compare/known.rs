@@ -1,11 +1,12 @@
 //! The document's own list of cases, and cases of the rules it leaves out.
 
 use super::base::{
-    base, base_field, base_until, base_with, block_start, file, written, File, BASE,
+    base, base_field, base_until, base_with, block_start, block_start_with, file, written, File, BASE,
 };
 
 pub fn known_files() -> Vec<File> {
-    [whole_files(), second_lines(), field_values(), rows_in_place(), other_rules()].concat()
+    [whole_files(), second_lines(), field_values(), amounts(), rows_in_place(), other_rules()]
+        .concat()
 }
 
 fn whole_files() -> Vec<File> {
@@ -78,6 +79,18 @@ fn field_values() -> Vec<File> {
         file(kind, base_field(line, field, value))
     };
     values.map(with).to_vec()
+}
+
+/// Amounts in the first amount field of lines of two blocks.
+fn amounts() -> Vec<File> {
+    let values = ["1,00", "1,0", "1,000", "1", ",00", "1.00", "1,0x", "-1,00"];
+    let lines: [(&[&str], usize); 2] = [(&["E300", "E340"], 2), (&["H020"], 4)];
+    let mut files = Vec::new();
+    for (codes, field) in lines {
+        let with = |value| file(format!("{codes:?} amount {value}"), block_start_with(codes, field, value));
+        files.extend(values.map(with));
+    }
+    files
 }
 
 fn rows_in_place() -> Vec<File> {

@@ -1,6 +1,6 @@
 //! The faults, each the honest behaviour with one thing other.
 
-use crate::{counts, forgives, joins, says, sees};
+use crate::{counts, forgives, forgives_fields, joins, says, sees};
 use oracle::Answer;
 
 pub struct Fault {
@@ -60,7 +60,7 @@ const fn numbering(name: &'static str, numbers: fn(&[u8], Answer, bool) -> (u64,
     Fault { name, numbers, ..NONE }
 }
 
-pub const FAULTS: [Fault; 49] = [
+pub const FAULTS: [Fault; 56] = [
     joining("loses-cr", joins::without_last_cr),
     joining("loses-cr-at-empty-piece", joins::cr_lost_at_empty_piece),
     joining("loses-code", joins::code_lost),
@@ -85,6 +85,13 @@ pub const FAULTS: [Fault; 49] = [
     saying("allows-991st", forgives::allows_991st),
     saying("any-parent", forgives::any_parent),
     saying("text-of-256", forgives::text_of_256),
+    saying("one-decimal-more", forgives_fields::one_decimal_more),
+    saying("no-comma", forgives_fields::no_comma),
+    saying("any-amount-in-e", forgives_fields::any_amount_in_e),
+    saying("any-volume", forgives_fields::any_volume),
+    saying("size-one-more", forgives_fields::size_one_more),
+    saying("length-in-8-bits", forgives_fields::length_in::<8>),
+    saying("length-in-16-bits", forgives_fields::length_in::<16>),
     saying("lf-after-bar-is-2", says::lf_after_bar_is_2),
     saying("control-after-fields-is-2", says::control_after_fields_is_2),
     saying("byte-26-at-end", forgives::byte_26_at_end),

@@ -6,7 +6,7 @@ use oracle::rows::{row_with_code, rows};
 use oracle::{Answer, BAR, LF};
 
 /// The refused line up to the refusing byte, if the number is this one.
-fn refused_line<'a>(all: &'a [u8], answer: &Answer, wanted: u8) -> Option<&'a [u8]> {
+pub fn refused_line<'a>(all: &'a [u8], answer: &Answer, wanted: u8) -> Option<&'a [u8]> {
     match *answer {
         Answer::Refused { number, bytes, .. } if number == wanted => {
             all[..bytes as usize].split(|&byte| byte == LF).next_back()

@@ -6,6 +6,7 @@ mod counts;
 mod fault;
 mod faulty;
 mod forgives;
+mod forgives_fields;
 mod honest;
 mod joins;
 mod says;
