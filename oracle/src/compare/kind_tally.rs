@@ -126,6 +126,7 @@ fn shown(count: usize, can_be: bool) -> String {
 mod tests {
     use super::*;
     use crate::compare::base::{base, base_field, base_until};
+    use crate::generate::small_case;
 
     fn stood(met: &Met) -> Vec<String> {
         met.stood.iter().map(Kind::to_string).collect()
@@ -159,6 +160,16 @@ mod tests {
         for commands in [&commands[..], &late] {
             assert_eq!(stood(&met_in_case(commands)), ["LFPD"]);
         }
+    }
+
+    /// The swept files aside. A text of 65537 bytes is too long for these files.
+    #[test]
+    fn every_kind_comes_up_by_chance() {
+        let mut tally = KindTally::default();
+        for seed in 0..20_000 {
+            tally.add(met_in_file(&small_case(seed).bytes));
+        }
+        assert_eq!(tally.missing(), ["C at most 65536 never refused by 11"]);
     }
 
     #[test]

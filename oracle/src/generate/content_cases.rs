@@ -5,12 +5,25 @@ use super::edge_values::edge_value;
 use super::fill::{good_line, Fullness};
 use super::random::Random;
 use super::tree::{good_file_with, TIGHT};
-use crate::kinds::kind;
+use crate::kinds::{kind, Kind};
 use crate::rows::rows;
+use std::collections::BTreeMap;
 
 /// A field at an edge of its kind. Counts have their own cases.
 pub fn any_field(random: &mut Random, room: usize) -> Vec<u8> {
     let (row, field) = *random.pick(&edge_fields());
+    with_field_at_edge(random, room, row, field)
+}
+
+/// The same, kinds with few fields as often as those with many.
+pub fn any_kind(random: &mut Random, room: usize) -> Vec<u8> {
+    let mut kinds: BTreeMap<Kind, Vec<(usize, usize)>> = BTreeMap::new();
+    for (row, field) in edge_fields() {
+        kinds.entry(kind(row, field)).or_default().push((row, field));
+    }
+    let of_each_kind: Vec<Vec<(usize, usize)>> = kinds.into_values().collect();
+    let fields = random.pick(&of_each_kind);
+    let (row, field) = *random.pick(fields);
     with_field_at_edge(random, room, row, field)
 }
 
