@@ -119,13 +119,14 @@ fn sheet_of_row(row: &Row) -> impl Iterator<Item = &'static str> {
 
 fn read_field(row: &Row, field: usize, entry: &'static str) -> Field {
     let columns: Vec<&'static str> = entry.split_whitespace().collect();
-    let [name, letter, size, decimals] = columns[..] else {
+    let [name, letter @ ("C" | "N"), size, decimals] = columns[..] else {
         panic!("not a field: {entry}");
     };
+    let number = |column: &str| (column != "-").then(|| column.parse().expect("a number or a dash"));
     let kind = Kind {
         numeric: letter == "N",
-        size: size.parse().ok(),
-        decimals: decimals.parse().ok(),
+        size: number(size),
+        decimals: number(decimals),
         role: role(row, field, name),
     };
     Field { name, kind }
