@@ -29,7 +29,7 @@ static uint64_t number(void)
 
 static unsigned below(unsigned limit)
 {
-    return number() % limit;
+    return (unsigned)(number() % limit);
 }
 
 static unsigned between(unsigned low, unsigned high)
@@ -124,6 +124,16 @@ static void put_product(void)
     put(ANY_OF(pack));
 }
 
+static void put_remark(void)
+{
+    static const char *const parts[] = {"ICMS recolhido por antecipa\347\343o, ",
+        "conforme Dec. 14.876/91, art. 28; ", "mercadoria sujeita \340 substitui\347\343o tribut\341ria. ",
+        "Pedido de 12/01/2012, ", "entrega na filial; ", "devolu\347\343o parcial da nota citada. ",
+        "Sem direito a cr\351dito fiscal. "};
+    for (unsigned left = between(1, 5); left > 0; left--)
+        put(ANY_OF(parts));
+}
+
 static void put_street(void)
 {
     static const char *const kind[] = {"Rua ", "Av. ", "Travessa ", "Rod. BR-101 "};
@@ -165,6 +175,7 @@ static void content(char letter)
     static const char *const natures[] = {"VENDA", "COMPRA", "DEVOL", "TRANSF"};
     static const char *const classes[] = {"SP10", "SP20", "EP10", "OP30"};
     static const char *const notes[] = {"OBS01", "OBS02", "OBS17"};
+    static const char *const printers[] = {"BE0305SC5600248765", "EP051010000000034418", "DR0207BR000000128690"};
     switch (letter) {
     case 'A': put(ANY_OF(rates)); break;
     case 'B': put_number(below(2), 1); break;
@@ -199,11 +210,15 @@ static void content(char letter)
     case 'f': put_firm(); break;
     case 'g': put(ANY_OF(natures)); break;
     case 'h': put(ANY_OF(classes)); break;
+    case 'l': put_remark(); break;
+    case 'm': put(ANY_OF(printers)); break;
     case 'n': put_person(); break;
     case 'o': put(ANY_OF(notes)); break;
     case 'p': put_code("P", participants, 6); break;
     case 'q': put_digits(9); break;
     case 'r': put_product(); break;
+    case 'x': put_digits(11); break;
+    case 'z': put("0,000"); break;
     default: fprintf(stderr, "make_file: no content %c\n", letter); exit(2);
     }
 }
@@ -214,7 +229,7 @@ static void field(const char *word, size_t length)
 {
     if (word[0] == '=')
         put_part(word + 1, length - 1);
-    else if (word[0] != '-' && (length == 1 || tenths(word[1] - '0')))
+    else if (word[0] != '-' && (length == 1 || tenths((unsigned)(word[1] - '0'))))
         content(word[0]);
     put("|");
 }
@@ -267,18 +282,21 @@ static void closing(const char *code, uint64_t more)
 
 static void taxpayer(void)
 {
-    line("0000 =LFPD =01012012 =31012012 f J =PE q W X - q =2000 =0 =20 =Brasil f X X5 -");
+    line("0000 =LFPD =01012012 =31012012 f J =PE q W X - q =2000 =0 =20 =Brasil f X - -");
     opening("0", '0');
-    line("0005 n =205 X C a R c4 b C5 R3 T T3 E");
+    line("0005 n =205 x C a R c4 b C5 R3 T T3 E");
     some(1, 4, "0025 =PE001 =RE002");
     line("0030 =0 =1 =0 =2 =0 =0 =1 =1 =0 =1 =0 =0 =1 =1 =0 =0 =1");
-    line("0100 n =900 J5 X =PE012345O C a R c2 b S W C2 R2 T T E");
+    line("0100 n =900 J5 x =PE012345O C a R c2 b S W C2 R2 T T E");
 }
 
 static void participant(void)
 {
     participants++;
-    line("0150 p f =01058 J X2 - S q q1 W X3 q1");
+    if (tenths(8))
+        line("0150 p f =01058 J - - S q q1 W X3 q1");
+    else
+        line("0150 p n =01058 - x - S - - W - -");
     perhaps(9, "0175 C a R c3 b C1 R1 T6 T2");
 }
 
@@ -286,29 +304,41 @@ static void item(void)
 {
     items++;
     line("0200 d r G Y1");
-    perhaps(1, "0205 r D D d");
-    perhaps(1, "0210 U Q d r U Q L -");
+    perhaps(1, "0205 d r D D");
+    perhaps(1, "0210 I U Q U D D2 B Q2");
+    perhaps(1, "0215 q D D2");
 }
 
-static void notes(void)
+static void note(void)
 {
-    some(3, 6, "0400 g r h");
-    for (unsigned left = between(3, 8); left > 0; left--) {
-        line("0450 o r");
-        perhaps(3, "0455 r");
-        perhaps(2, "0460 =0 r S W =012012 q V D Z Z Z Z V D X");
-    }
+    line("0450 o l");
+    perhaps(3, "0455 l");
+    perhaps(2, "0460 =0 - S W =012012 q V D Z Z Z Z V D X");
+    perhaps(2, "0465 B B J - S q W - M =00 =1 - K8 R D V Z Z V Z Z Z V1");
+    perhaps(1, "0470 =2D R m R R R D V Z V");
+}
+
+/* As many groups of lines as reach so many bytes, but one at least. */
+static void fill(uint64_t end, void (*group)(void))
+{
+    do
+        group();
+    while (bytes_written < end);
+}
+
+/* The byte where so many hundredths of the way to the end are gone. */
+static uint64_t part(unsigned hundredths, uint64_t end)
+{
+    return bytes_written < end ? bytes_written + (end - bytes_written) * hundredths / 100 : end;
 }
 
 static void block_0(uint64_t end)
 {
     taxpayer();
-    do {
-        participant();
-        for (unsigned left = between(1, 3); left > 0; left--)
-            item();
-    } while (bytes_written < end);
-    notes();
+    fill(part(55, end), participant);
+    fill(part(95, end), item);
+    some(3, 6, "0400 g r h");
+    fill(end, note);
     closing("0990", 0);
 }
 
@@ -325,10 +355,19 @@ static void invoice(void)
     }
 }
 
+static void consumer_note(void)
+{
+    documents++;
+    line("C550 x3 J1 =02 =00 =D - N D h V Z Z V V V o1");
+    unsigned left = between(1, 4);
+    for (item_number = 1; left > 0; left--, item_number++)
+        line("C560 O I U Q Q Z Z V Y F V A V");
+}
+
 static void coupon(void)
 {
     documents++;
-    line("C600 X3 J1 =2D =00 =1 =BE0000000000 R R N D h V Z Z Z Z V V Z Z V3");
+    line("C600 x3 J1 =2D =00 =1 m R R N D h V Z Z Z Z V V Z Z V3");
     perhaps(1, "C605 Z Z Z V V Z Z");
     unsigned left = between(1, 8);
     for (item_number = 1; left > 0; left--, item_number++) {
@@ -340,95 +379,169 @@ static void coupon(void)
 static void block_c(uint64_t end)
 {
     opening("C", '0');
-    do {
-        invoice();
-        if (tenths(5))
-            coupon();
-    } while (bytes_written < end);
+    fill(part(70, end), invoice);
+    fill(part(5, end), consumer_note);
+    fill(end, coupon);
     closing("C990", 0);
+}
+
+static void further_fields(void)
+{
+    line("E003 =PE =E025 =16 =2");
+    line("E003 =PE =E055 =09 =1");
+    line("E003 =PE =E065 =10 =1");
+    line("E003 =PE =E085 =06 =1");
+    line("E003 =PE =E105 =11 =1");
+    line("E003 =PE =E310 =10 =1");
+    line("E003 =PE =E350 =10 =1");
 }
 
 static void entry(void)
 {
     documents++;
     line("E020 B B P M =00 =1 N K8 D D g h X B V Z V V V2 V1 V1 Z Z Z V1 V1 Z Z o2");
-    some(1, 4, "E025 V Z F V A V V2 V2 Z Z V1 V1 Z Z B B");
-    perhaps(1, "E120 B B P W =08 =00 =1 - N K5 D D h X B V F V A V Z Z Z o1");
+    some(1, 4, "E025 V Z F V A V V2 V2 Z Z V1 V1 Z Z B5 B1");
 }
 
-static void assessment(void)
+static void day_of_notes(void)
+{
+    line("E050 =02 =0 =D - R R D h X V V V Z Z o1");
+    some(1, 3, "E055 V F V A V Z Z B1");
+}
+
+static void day_of_coupons(void)
+{
+    line("E060 =2D R m R R D R R V V V Z Z Z Z V V V Z Z V o1");
+    some(1, 4, "E065 F V A V B1");
+}
+
+static void day_of_printers(void)
+{
+    line("E080 =0 =2D R D V Z Z Z Z h X V V V Z V B");
+    some(1, 3, "E085 V Z F V A V Z V B1");
+}
+
+static void bill(void)
+{
+    documents++;
+    line("E100 =0 =1 P W =06 =00 - =U - G N - D D h X V Z V V Z Z Z o1");
+    some(1, 2, "E105 V Z F V A V Z Z Z B1");
+}
+
+static void transport(void)
+{
+    documents++;
+    line("E120 B B P W =08 =00 =1 - N K5 D D h X B V F V A V Z Z Z o1");
+    perhaps(1, "E140 W =13 =0 =1 - R R D h X V F V A V Z Z o1");
+}
+
+static void icms_assessment(void)
 {
     line("E300 =01012012 =31012012");
     some(20, 31, "E305 B B D h X R V Z V V V2 Z Z Z Z Z Z Z V1 V1 Z Z");
     some(8, 20, "E310 V Z F V V V2 Z Z B");
     some(3, 8, "E330 B V Z V V V Z Z Z Z Z Z Z");
     line("E340 V V V Z Z V Z V V Z Z Z V Z Z Z Z Z V Z Z Z V");
-    some(0, 5, "E350 =PE H V X3 X3 B r o2 =1");
-    some(1, 4, "E360 =PE H =012012 =0051 V D X2 B r2 o1");
+    some(1, 5, "E350 =PE H V X3 X3 B l o2 =1");
+    some(1, 4, "E360 =PE H =012012 =0051 V D X2 B l2 o1");
+}
+
+static void ipi_assessment(void)
+{
+    line("E500 =01012012 =31012012 -");
+    some(2, 8, "E520 V F V V Z Z");
+    some(3, 8, "E525 B V V V Z Z");
+    line("E540 V Z V Z Z Z V V Z Z Z V Z V Z");
+    some(1, 3, "E550 H V =9 X3 l o2");
+    some(1, 2, "E560 =1097 =012012 Y V D B X2 l2 o1");
 }
 
 static void block_e(uint64_t end)
 {
     opening("E", '0');
-    some(1, 3, "E003 S =E020 R R");
-    do
-        entry();
-    while (bytes_written < end);
-    assessment();
+    further_fields();
+    fill(part(75, end), entry);
+    fill(part(10, end), day_of_notes);
+    fill(part(40, end), day_of_coupons);
+    fill(part(30, end), day_of_printers);
+    fill(part(30, end), bill);
+    fill(end, transport);
+    icms_assessment();
+    ipi_assessment();
     closing("E990", 0);
+}
+
+static void printed_documents(void)
+{
+    line("F020 =0 =01012012 =31012012 - =PE");
+    line("F025 =PE W R D P");
+    for (unsigned left = between(1, 3); left > 0; left--) {
+        line("F030 =01 M =1 - R");
+        some(1, 3, "F035 M =1 - D R R R - o1");
+    }
 }
 
 static void fuel_day(void)
 {
-    line("F215 =1 D L L L L L Z Z L V");
+    line("F215 =1 D L L L L L z z L V");
     for (unsigned left = between(1, 3); left > 0; left--) {
-        line("F220 =TQ01 L L L L Z Z");
+        line("F220 =TQ01 L L L L z z");
         perhaps(4, "F225 =0 =1 J S q =55 =1 N D V V V L o1");
         some(1, 4, "F230 R G X X Z");
     }
 }
 
+static void fuel(void)
+{
+    line("F210 I o1");
+    for (unsigned left = between(5, 31); left > 0; left--)
+        fuel_day();
+}
+
 static void block_f(uint64_t end)
 {
     opening("F", '0');
+    printed_documents();
     line("F200 =1 =01012012 =31012012");
     some(2, 6, "F205 R f J r B");
-    do {
-        line("F210 I o1");
-        for (unsigned left = between(5, 31); left > 0; left--)
-            fuel_day();
-    } while (bytes_written < end);
+    fill(end, fuel);
     line("F250 =1 =01012012 =31012012");
-    some(2, 10, "F255 D B P S W =KJA1234 r r Y r X X V B D5 P5 V5 o1");
+    some(2, 10, "F255 D B P S W =KJA1234 f r =2009 r X X V B D5 P5 V5 o1");
     closing("F990", 0);
+}
+
+static void documents_of_a_kind(void)
+{
+    line("G025 B B M =1 - R R R R V Z Z V V2 Z V1");
 }
 
 static void block_g(uint64_t end)
 {
     opening("G", '0');
     line("G020 =0 =01012012 =31012012");
-    do
-        line("G025 B B M =1 - R R R R V Z Z V V2 Z V1");
-    while (bytes_written < end);
+    fill(end, documents_of_a_kind);
     some(1, 5, "G030 =2D R R R R R V Z V V2");
     some(20, 31, "G050 B B D h R V V Z Z Z V V2 Z Z Z Z Z V1");
     some(8, 20, "G400 V Z F V V V2 V2 Z Z");
     some(3, 8, "G410 B V Z V V V Z Z Z Z Z Z Z");
     line("G420 V V V Z Z V Z V V Z Z Z V Z Z Z Z Z V Z Z Z V");
-    some(0, 5, "G430 H V");
+    some(1, 5, "G430 H V");
     some(1, 4, "G440 =PE H =012012 =0051 V D");
     line("G450 =0 V V Z V V V V2 Z Z Z Z Z Z");
     some(3, 9, "G460 S V V Z V V V V2 Z Z Z Z Z Z");
     closing("G990", 0);
 }
 
+static void stocked_item(void)
+{
+    line("H030 =0 P1 B C I U Q Q V V Z V V Z o1");
+}
+
 static void block_h(uint64_t end)
 {
     opening("H", '0');
     line("H020 =0 =31122011 V V Z V V Z V X o2");
-    do
-        line("H030 =0 P1 B C I U Q Q V V Z V V Z o1");
-    while (bytes_written < end);
+    fill(end, stocked_item);
     some(1, 3, "H040 B V");
     some(1, 2, "H050 B V");
     some(3, 20, "H060 C V");
