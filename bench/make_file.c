@@ -83,6 +83,28 @@ static void put_amount(int decimals)
     put_digits(decimals);
 }
 
+/*
+ * So many digits, then two check digits: each is made from the digits before
+ * it, with weights that go up from 2 at the last one to `greatest` and begin
+ * again (11 for a CPF and 9 for a CNPJ).
+ */
+static void put_checked(int count, int greatest)
+{
+    int digits[14];
+    for (int i = 0; i < count; i++)
+        digits[i] = (int)below(10);
+    for (int end = count + 2; count < end; count++) {
+        int sum = 0, weight = 2;
+        for (int i = count - 1; i >= 0; i--) {
+            sum += digits[i] * weight;
+            weight = weight == greatest ? 2 : weight + 1;
+        }
+        digits[count] = sum % 11 < 2 ? 0 : 11 - sum % 11;
+    }
+    for (int i = 0; i < count; i++)
+        put_number((uint64_t)digits[i], 1);
+}
+
 static void put_date(void)
 {
     put_number(between(1, 31), 2);
@@ -186,7 +208,7 @@ static void content(char letter)
     case 'G': put_digits(2); break;
     case 'H': put_digits(3); break;
     case 'I': put_code("", 789000000 + below(items), 13); break;
-    case 'J': put_digits(14); break;
+    case 'J': put_checked(12, 9); break;
     case 'K': put_digits(44); break;
     case 'L': put_amount(3); break;
     case 'M': put(ANY_OF(models)); break;
@@ -217,7 +239,7 @@ static void content(char letter)
     case 'p': put_code("P", participants, 6); break;
     case 'q': put_digits(9); break;
     case 'r': put_product(); break;
-    case 'x': put_digits(11); break;
+    case 'x': put_checked(9, 11); break;
     case 'z': put("0,000"); break;
     default: fprintf(stderr, "make_file: no content %c\n", letter); exit(2);
     }
