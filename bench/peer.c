@@ -16,9 +16,18 @@
 #include <stdio.h>
 #include <string.h>
 
+#include "peer_kinds.h"
+
 #define BAR '|'
 #define CR 13
 #define LF 10
+
+/* Whether the peer is held to one byte a turn, to compare with a checker that steps byte by byte. */
+#ifdef BYTE_BY_BYTE
+#define STEPS true
+#else
+#define STEPS false
+#endif
 
 #define MOST_BYTES UINT64_C(4294967295)
 #define LONGEST_PIECE 65536
@@ -26,57 +35,11 @@
 
 /* ------------------------------------------------------------ the layout */
 
-enum form { TEXT, FIXED, DIGITS, MARK, DATE, COUNT };
-
-/* What a field of a typed line holds. A size of 0 for DIGITS is any size. */
-struct kind {
-    uint8_t form;
-    uint8_t size;
-    const char *text;
-};
-
-#define C(size) {TEXT, size, NULL}
-#define C_FREE {TEXT, 255, NULL}
-#define N(size) {DIGITS, size, NULL}
-#define N_FREE {DIGITS, 0, NULL}
-#define DT {DATE, 8, NULL}
-#define SAYS(size, text) {FIXED, size, text}
-
-/* The kinds of the typed lines, from field 2 on. */
-static const struct kind opening[] = {{MARK, 1, NULL}};
-static const struct kind closing[] = {{COUNT, 0, NULL}};
-
-static const struct kind kinds_0000[] = {
-    SAYS(4, "LFPD"), DT, DT, C_FREE, N(14), C(2), C_FREE, N(7), C_FREE, C(0),
-    C(9), N(4), N(1), N(2), SAYS(6, "Brasil"), C_FREE, N(11), N(11), C(0),
-};
-static const struct kind kinds_0005[] = {
-    C_FREE, N(3), N(11), N(8), C_FREE, C_FREE, C_FREE, C_FREE, N(8), N_FREE,
-    C_FREE, C_FREE, C_FREE,
-};
-static const struct kind kinds_0025[] = {C(5), C(5)};
-static const struct kind kinds_0030[] = {
-    N(1), N(1), N(1), N(1), N(1), N(1), N(1), N(1), N(1),
-    N(1), N(1), N(1), N(1), N(1), N(1), N(1), N(1),
-};
-static const struct kind kinds_0100[] = {
-    C_FREE, N(3), N(14), N(11), C(10), N(8), C_FREE, C_FREE, C_FREE, C_FREE,
-    C(2), N(7), N(8), N_FREE, C_FREE, C_FREE, C_FREE,
-};
-static const struct kind kinds_0150[] = {
-    C_FREE, C_FREE, N(5), N(14), N(11), C(0), C(2), C_FREE, C_FREE, N(7),
-    C_FREE, C(9),
-};
-static const struct kind kinds_0175[] = {
-    N(8), C_FREE, C_FREE, C_FREE, C_FREE, N(8), N_FREE, C_FREE, C_FREE,
-};
-static const struct kind kinds_0200[] = {C_FREE, C_FREE, N(2), N(4)};
-
 enum role { START, OPENING, DATA, CLOSING, END };
 
 /*
  * The 98 rows: block, number, fields, level, most under one parent line (0 is
- * any number), parent, role, kinds (NULL where the line is not typed).
+ * any number), parent, role, kinds of the fields after the first.
  */
 #define ROWS(X)                                       \
     X(0, 000, 20, 0, 1, NONE, START, kinds_0000)      \
@@ -88,91 +51,91 @@ enum role { START, OPENING, DATA, CLOSING, END };
     X(0, 150, 13, 2, 0, 0001, DATA, kinds_0150)       \
     X(0, 175, 10, 3, 1, 0150, DATA, kinds_0175)       \
     X(0, 200, 5, 2, 0, 0001, DATA, kinds_0200)        \
-    X(0, 205, 5, 3, 0, 0200, DATA, NULL)              \
-    X(0, 210, 9, 3, 0, 0200, DATA, NULL)              \
-    X(0, 215, 4, 3, 0, 0200, DATA, NULL)              \
-    X(0, 400, 4, 2, 0, 0001, DATA, NULL)              \
-    X(0, 450, 3, 2, 0, 0001, DATA, NULL)              \
-    X(0, 455, 2, 3, 0, 0450, DATA, NULL)              \
-    X(0, 460, 16, 3, 0, 0450, DATA, NULL)             \
-    X(0, 465, 24, 3, 0, 0450, DATA, NULL)             \
-    X(0, 470, 11, 3, 0, 0450, DATA, NULL)             \
+    X(0, 205, 5, 3, 0, 0200, DATA, kinds_0205)        \
+    X(0, 210, 9, 3, 0, 0200, DATA, kinds_0210)        \
+    X(0, 215, 4, 3, 0, 0200, DATA, kinds_0215)        \
+    X(0, 400, 4, 2, 0, 0001, DATA, kinds_0400)        \
+    X(0, 450, 3, 2, 0, 0001, DATA, kinds_0450)        \
+    X(0, 455, 2, 3, 0, 0450, DATA, kinds_0455)        \
+    X(0, 460, 16, 3, 0, 0450, DATA, kinds_0460)       \
+    X(0, 465, 24, 3, 0, 0450, DATA, kinds_0465)       \
+    X(0, 470, 11, 3, 0, 0450, DATA, kinds_0470)       \
     X(0, 990, 2, 1, 1, 0001, CLOSING, closing)        \
     X(C, 001, 2, 1, 1, NONE, OPENING, opening)        \
-    X(C, 020, 28, 2, 0, C001, DATA, NULL)             \
-    X(C, 040, 6, 3, 1, C020, DATA, NULL)              \
-    X(C, 300, 21, 3, 990, C020, DATA, NULL)           \
-    X(C, 305, 2, 4, 1, C300, DATA, NULL)              \
-    X(C, 310, 4, 4, 1, C300, DATA, NULL)              \
-    X(C, 550, 17, 2, 0, C001, DATA, NULL)             \
-    X(C, 560, 14, 3, 0, C550, DATA, NULL)             \
-    X(C, 600, 22, 2, 0, C001, DATA, NULL)             \
-    X(C, 605, 8, 3, 1, C600, DATA, NULL)              \
-    X(C, 610, 17, 3, 0, C600, DATA, NULL)             \
-    X(C, 615, 6, 4, 1, C610, DATA, NULL)              \
+    X(C, 020, 28, 2, 0, C001, DATA, kinds_C020)       \
+    X(C, 040, 6, 3, 1, C020, DATA, kinds_C040)        \
+    X(C, 300, 21, 3, 990, C020, DATA, kinds_C300)     \
+    X(C, 305, 2, 4, 1, C300, DATA, kinds_C305)        \
+    X(C, 310, 4, 4, 1, C300, DATA, kinds_C310)        \
+    X(C, 550, 17, 2, 0, C001, DATA, kinds_C550)       \
+    X(C, 560, 14, 3, 0, C550, DATA, kinds_C560)       \
+    X(C, 600, 22, 2, 0, C001, DATA, kinds_C600)       \
+    X(C, 605, 8, 3, 1, C600, DATA, kinds_C605)        \
+    X(C, 610, 17, 3, 0, C600, DATA, kinds_C610)       \
+    X(C, 615, 6, 4, 1, C610, DATA, kinds_C615)        \
     X(C, 990, 2, 1, 1, C001, CLOSING, closing)        \
     X(E, 001, 2, 1, 1, NONE, OPENING, opening)        \
-    X(E, 003, 5, 2, 0, E001, DATA, NULL)              \
-    X(E, 020, 30, 2, 0, E001, DATA, NULL)             \
-    X(E, 025, 17, 3, 0, E020, DATA, NULL)             \
-    X(E, 050, 16, 2, 0, E001, DATA, NULL)             \
-    X(E, 055, 9, 3, 0, E050, DATA, NULL)              \
-    X(E, 060, 23, 2, 0, E001, DATA, NULL)             \
-    X(E, 065, 6, 3, 0, E060, DATA, NULL)              \
-    X(E, 080, 18, 2, 0, E001, DATA, NULL)             \
-    X(E, 085, 10, 3, 0, E080, DATA, NULL)             \
-    X(E, 100, 25, 2, 0, E001, DATA, NULL)             \
-    X(E, 105, 11, 3, 0, E100, DATA, NULL)             \
-    X(E, 120, 25, 2, 0, E001, DATA, NULL)             \
-    X(E, 140, 19, 2, 0, E001, DATA, NULL)             \
-    X(E, 300, 3, 2, 0, E001, DATA, NULL)              \
-    X(E, 305, 23, 3, 0, E300, DATA, NULL)             \
-    X(E, 310, 10, 3, 0, E300, DATA, NULL)             \
-    X(E, 330, 14, 3, 0, E300, DATA, NULL)             \
-    X(E, 340, 24, 3, 1, E300, DATA, NULL)             \
-    X(E, 350, 10, 3, 0, E300, DATA, NULL)             \
-    X(E, 360, 11, 3, 0, E300, DATA, NULL)             \
-    X(E, 500, 4, 2, 0, E001, DATA, NULL)              \
-    X(E, 520, 7, 3, 0, E500, DATA, NULL)              \
-    X(E, 525, 7, 3, 0, E500, DATA, NULL)              \
-    X(E, 540, 16, 3, 1, E500, DATA, NULL)             \
-    X(E, 550, 7, 3, 0, E500, DATA, NULL)              \
-    X(E, 560, 10, 3, 0, E500, DATA, NULL)             \
+    X(E, 003, 5, 2, 0, E001, DATA, kinds_E003)        \
+    X(E, 020, 30, 2, 0, E001, DATA, kinds_E020)       \
+    X(E, 025, 17, 3, 0, E020, DATA, kinds_E025)       \
+    X(E, 050, 16, 2, 0, E001, DATA, kinds_E050)       \
+    X(E, 055, 9, 3, 0, E050, DATA, kinds_E055)        \
+    X(E, 060, 23, 2, 0, E001, DATA, kinds_E060)       \
+    X(E, 065, 6, 3, 0, E060, DATA, kinds_E065)        \
+    X(E, 080, 18, 2, 0, E001, DATA, kinds_E080)       \
+    X(E, 085, 10, 3, 0, E080, DATA, kinds_E085)       \
+    X(E, 100, 25, 2, 0, E001, DATA, kinds_E100)       \
+    X(E, 105, 11, 3, 0, E100, DATA, kinds_E105)       \
+    X(E, 120, 25, 2, 0, E001, DATA, kinds_E120)       \
+    X(E, 140, 19, 2, 0, E001, DATA, kinds_E140)       \
+    X(E, 300, 3, 2, 0, E001, DATA, kinds_E300)        \
+    X(E, 305, 23, 3, 0, E300, DATA, kinds_E305)       \
+    X(E, 310, 10, 3, 0, E300, DATA, kinds_E310)       \
+    X(E, 330, 14, 3, 0, E300, DATA, kinds_E330)       \
+    X(E, 340, 24, 3, 1, E300, DATA, kinds_E340)       \
+    X(E, 350, 10, 3, 0, E300, DATA, kinds_E350)       \
+    X(E, 360, 11, 3, 0, E300, DATA, kinds_E360)       \
+    X(E, 500, 4, 2, 0, E001, DATA, kinds_E500)        \
+    X(E, 520, 7, 3, 0, E500, DATA, kinds_E520)        \
+    X(E, 525, 7, 3, 0, E500, DATA, kinds_E525)        \
+    X(E, 540, 16, 3, 1, E500, DATA, kinds_E540)       \
+    X(E, 550, 7, 3, 0, E500, DATA, kinds_E550)        \
+    X(E, 560, 10, 3, 0, E500, DATA, kinds_E560)       \
     X(E, 990, 2, 1, 1, E001, CLOSING, closing)        \
     X(F, 001, 2, 1, 1, NONE, OPENING, opening)        \
-    X(F, 020, 6, 2, 0, F001, DATA, NULL)              \
-    X(F, 025, 6, 3, 0, F020, DATA, NULL)              \
-    X(F, 030, 6, 4, 0, F025, DATA, NULL)              \
-    X(F, 035, 10, 5, 0, F030, DATA, NULL)             \
-    X(F, 200, 4, 2, 0, F001, DATA, NULL)              \
-    X(F, 205, 6, 3, 0, F200, DATA, NULL)              \
-    X(F, 210, 3, 3, 0, F200, DATA, NULL)              \
-    X(F, 215, 12, 4, 0, F210, DATA, NULL)             \
-    X(F, 220, 8, 5, 0, F215, DATA, NULL)              \
-    X(F, 225, 15, 6, 0, F220, DATA, NULL)             \
-    X(F, 230, 6, 6, 0, F220, DATA, NULL)              \
-    X(F, 250, 4, 2, 0, F001, DATA, NULL)              \
-    X(F, 255, 19, 3, 0, F250, DATA, NULL)             \
+    X(F, 020, 6, 2, 0, F001, DATA, kinds_F020)        \
+    X(F, 025, 6, 3, 0, F020, DATA, kinds_F025)        \
+    X(F, 030, 6, 4, 0, F025, DATA, kinds_F030)        \
+    X(F, 035, 10, 5, 0, F030, DATA, kinds_F035)       \
+    X(F, 200, 4, 2, 0, F001, DATA, kinds_F200)        \
+    X(F, 205, 6, 3, 0, F200, DATA, kinds_F205)        \
+    X(F, 210, 3, 3, 0, F200, DATA, kinds_F210)        \
+    X(F, 215, 12, 4, 0, F210, DATA, kinds_F215)       \
+    X(F, 220, 8, 5, 0, F215, DATA, kinds_F220)        \
+    X(F, 225, 15, 6, 0, F220, DATA, kinds_F225)       \
+    X(F, 230, 6, 6, 0, F220, DATA, kinds_F230)        \
+    X(F, 250, 4, 2, 0, F001, DATA, kinds_F250)        \
+    X(F, 255, 19, 3, 0, F250, DATA, kinds_F255)       \
     X(F, 990, 2, 1, 1, F001, CLOSING, closing)        \
     X(G, 001, 2, 1, 1, NONE, OPENING, opening)        \
-    X(G, 020, 4, 2, 0, G001, DATA, NULL)              \
-    X(G, 025, 17, 3, 0, G020, DATA, NULL)             \
-    X(G, 030, 11, 3, 0, G020, DATA, NULL)             \
-    X(G, 050, 19, 3, 0, G020, DATA, NULL)             \
-    X(G, 400, 10, 3, 0, G020, DATA, NULL)             \
-    X(G, 410, 14, 3, 0, G020, DATA, NULL)             \
-    X(G, 420, 24, 3, 1, G020, DATA, NULL)             \
-    X(G, 430, 3, 3, 0, G020, DATA, NULL)              \
-    X(G, 440, 7, 3, 0, G020, DATA, NULL)              \
-    X(G, 450, 15, 3, 0, G020, DATA, NULL)             \
-    X(G, 460, 15, 4, 0, G450, DATA, NULL)             \
+    X(G, 020, 4, 2, 0, G001, DATA, kinds_G020)        \
+    X(G, 025, 17, 3, 0, G020, DATA, kinds_G025)       \
+    X(G, 030, 11, 3, 0, G020, DATA, kinds_G030)       \
+    X(G, 050, 19, 3, 0, G020, DATA, kinds_G050)       \
+    X(G, 400, 10, 3, 0, G020, DATA, kinds_G400)       \
+    X(G, 410, 14, 3, 0, G020, DATA, kinds_G410)       \
+    X(G, 420, 24, 3, 1, G020, DATA, kinds_G420)       \
+    X(G, 430, 3, 3, 0, G020, DATA, kinds_G430)        \
+    X(G, 440, 7, 3, 0, G020, DATA, kinds_G440)        \
+    X(G, 450, 15, 3, 0, G020, DATA, kinds_G450)       \
+    X(G, 460, 15, 4, 0, G450, DATA, kinds_G460)       \
     X(G, 990, 2, 1, 1, G001, CLOSING, closing)        \
     X(H, 001, 2, 1, 1, NONE, OPENING, opening)        \
-    X(H, 020, 12, 2, 0, H001, DATA, NULL)             \
-    X(H, 030, 16, 3, 0, H020, DATA, NULL)             \
-    X(H, 040, 3, 3, 0, H020, DATA, NULL)              \
-    X(H, 050, 3, 3, 0, H020, DATA, NULL)              \
-    X(H, 060, 3, 3, 0, H020, DATA, NULL)              \
+    X(H, 020, 12, 2, 0, H001, DATA, kinds_H020)       \
+    X(H, 030, 16, 3, 0, H020, DATA, kinds_H030)       \
+    X(H, 040, 3, 3, 0, H020, DATA, kinds_H040)        \
+    X(H, 050, 3, 3, 0, H020, DATA, kinds_H050)        \
+    X(H, 060, 3, 3, 0, H020, DATA, kinds_H060)        \
     X(H, 990, 2, 1, 1, H001, CLOSING, closing)        \
     X(9, 001, 2, 1, 1, NONE, OPENING, opening)        \
     X(9, 990, 2, 1, 1, 9001, CLOSING, closing)        \
@@ -198,6 +161,12 @@ struct row {
     {CODE_OF(block, number), most, ROW_##block##number, fields, level, ROW_##parent, role, kinds},
 static const struct row rows[] = {ROWS(ROW)};
 
+#define HAS_ITS_KINDS(block, number, fields, level, most, parent, role, kinds) \
+    static_assert(sizeof kinds == (fields - 1) * sizeof kinds[0], "a kind for each field but the first");
+ROWS(HAS_ITS_KINDS)
+#define AND_FIELDS(block, number, fields, ...) +fields
+static_assert(ROWS(AND_FIELDS) == 995, "995 fields");
+
 /*
  * From code to row without a search. No two codes have the same slot: if two
  * had, the compiler would warn of a slot filled twice (-Wextra).
@@ -213,9 +182,29 @@ static const bool special[256] = {
     [BAR] = 1,
 };
 
+static const bool digit[256] = {
+    ['0'] = 1, ['1'] = 1, ['2'] = 1, ['3'] = 1, ['4'] = 1,
+    ['5'] = 1, ['6'] = 1, ['7'] = 1, ['8'] = 1, ['9'] = 1,
+};
+
 /* ------------------------------------------------------------- the state */
 
-enum stage { LINE_START, CODE, TYPED, UNTYPED, LINE_END, LINE_FEED, FILE_END, REFUSED };
+/* Where the next byte comes. In a field after the first the stage is its form. */
+enum stage {
+    IN_TEXT = TEXT,
+    IN_FIXED = FIXED,
+    IN_DIGITS = DIGITS,
+    IN_DECIMALS = DECIMALS,
+    IN_MARK = MARK,
+    IN_DATE = DATE,
+    IN_COUNT = COUNT,
+    LINE_START,
+    CODE,
+    LINE_END,
+    LINE_FEED,
+    FILE_END,
+    REFUSED,
+};
 
 struct checker {
     enum stage stage;
@@ -225,10 +214,11 @@ struct checker {
 
     /* the field in hand */
     const struct kind *kind;
-    uint32_t code;   /* field 1: its last four bytes */
-    uint64_t length; /* of an untyped field only whether it is 0 */
-    uint64_t value;  /* of its digits, see VALUE_FULL */
-    bool wrong;      /* bytes that may not stand there have come */
+    uint32_t code; /* field 1: its last four bytes */
+    uint64_t length;
+    uint64_t value; /* of its digits, see VALUE_FULL */
+    uint64_t comma; /* the length with the comma, 0 before it comes */
+    bool wrong;     /* bytes that may not stand there have come */
 
     /* the line in hand, its open lines by level, and its block */
     const struct row *row;
@@ -337,9 +327,8 @@ static void set_count(struct checker *c, const struct row *row)
         c->count++;
 }
 
-static unsigned judge_code(struct checker *c)
+static unsigned judge_row(struct checker *c, const struct row *row)
 {
-    const struct row *row = find_row(c->code, c->length);
     if (row == NULL)
         return 3;
     if (!line_stands(c, row))
@@ -354,7 +343,7 @@ static unsigned judge_code(struct checker *c)
     return 0;
 }
 
-/* ---------------------------------------------- fields of the typed lines */
+/* ------------------------------------------------- fields after the first */
 
 static bool is_leap(unsigned year)
 {
@@ -362,14 +351,21 @@ static bool is_leap(unsigned year)
 }
 
 /* ddmmyyyy as one number. */
-static bool is_date(uint64_t value)
+static bool is_date(uint32_t value)
 {
     static const uint8_t days[] = {31, 28, 31, 30, 31, 30, 31, 31, 30, 31, 30, 31};
     unsigned day = value / 1000000, month = value / 10000 % 100, year = value % 10000;
     if (year < 1900 || year > 2099 || month < 1 || month > 12)
         return false;
-    unsigned last = days[month - 1] + (month == 2 && is_leap(year));
+    unsigned last = month == 2 && is_leap(year) ? 29 : days[month - 1];
     return day >= 1 && day <= last;
+}
+
+/* The bar after a field: the number of the rule it breaks, or 0. */
+
+static unsigned judge_text(const struct checker *c)
+{
+    return c->length > c->kind->size ? 11 : 0;
 }
 
 static unsigned judge_fixed(const struct checker *c)
@@ -381,22 +377,31 @@ static unsigned judge_fixed(const struct checker *c)
 
 static unsigned judge_digits(const struct checker *c)
 {
+    if (c->length == 0)
+        return 0;
     if (c->wrong)
         return 10;
     return c->kind->size != 0 && c->length != c->kind->size ? 11 : 0;
 }
 
+static unsigned judge_decimals(const struct checker *c)
+{
+    if (c->length == 0)
+        return 0;
+    return c->wrong || c->comma < 2 || c->length - c->comma != c->kind->size ? 10 : 0;
+}
+
 static unsigned judge_mark(struct checker *c)
 {
-    unsigned number = c->length == 0 ? 12 : judge_digits(c);
+    unsigned number = judge_digits(c);
     c->mark = c->value;
-    return number == 0 && c->value > 1 ? 12 : number;
+    return number == 0 && (c->length == 0 || c->value > 1) ? 12 : number;
 }
 
 static unsigned judge_date(const struct checker *c)
 {
     unsigned number = judge_digits(c);
-    return number == 0 && !is_date(c->value) ? 12 : number;
+    return number == 0 && c->length != 0 && !is_date((uint32_t)c->value) ? 12 : number;
 }
 
 static unsigned judge_count(const struct checker *c)
@@ -406,20 +411,21 @@ static unsigned judge_count(const struct checker *c)
     return c->length == 0 || c->value != c->count ? 13 : 0;
 }
 
-/* The bar after a field: the number of the rule it breaks, or 0. */
 static unsigned judge_field(struct checker *c)
 {
     switch (c->kind->form) {
     case TEXT:
-        return c->length > c->kind->size ? 11 : 0;
+        return judge_text(c);
     case FIXED:
         return judge_fixed(c);
     case DIGITS:
-        return c->length == 0 ? 0 : judge_digits(c);
+        return judge_digits(c);
+    case DECIMALS:
+        return judge_decimals(c);
     case MARK:
         return judge_mark(c);
     case DATE:
-        return c->length == 0 ? 0 : judge_date(c);
+        return judge_date(c);
     default:
         return judge_count(c);
     }
@@ -448,7 +454,7 @@ static place take_fixed(struct checker *c, place at, place end)
 static place take_digits(struct checker *c, place at, place end)
 {
     for (; at != end; at++) {
-        if ((uint8_t)(*at - '0') <= 9)
+        if (digit[*at])
             continue;
         if (special[*at])
             break;
@@ -457,57 +463,66 @@ static place take_digits(struct checker *c, place at, place end)
     return at;
 }
 
-static place take_value(struct checker *c, place at, place end)
+static place take_decimals(struct checker *c, place from, place end)
 {
-    for (; at != end && !special[*at]; at++) {
-        unsigned digit = (uint8_t)(*at - '0');
-        if (digit > 9)
+    place at = from;
+    for (; at != end; at++) {
+        if (digit[*at])
+            continue;
+        if (special[*at])
+            break;
+        if (*at == ',' && c->comma == 0)
+            c->comma = c->length + (uint64_t)(at - from) + 1;
+        else
             c->wrong = true;
-        else if (c->value < VALUE_FULL)
-            c->value = c->value * 10 + digit;
     }
     return at;
 }
 
-static place take(struct checker *c, place at, place end)
+static place take_value(struct checker *c, place at, place end)
 {
-    switch (c->kind->form) {
-    case TEXT:
-        return take_text(at, end);
-    case FIXED:
-        return take_fixed(c, at, end);
-    case DIGITS:
-        return take_digits(c, at, end);
-    default:
-        return take_value(c, at, end);
+    for (; at != end && !special[*at]; at++) {
+        if (!digit[*at])
+            c->wrong = true;
+        else if (c->value < VALUE_FULL)
+            c->value = c->value * 10 + (unsigned)(*at - '0');
     }
+    return at;
 }
 
 /* ------------------------------------------------------ lines, byte by byte */
 
 /*
- * Each of these takes in bytes of one stage, at least one, moves `at` behind
- * them and says in which stage the next byte comes.
+ * Those that give a stage take in bytes, at least one in the stage they are
+ * called for, move `at` behind them and say in which stage the next byte
+ * comes.
  */
-
-static enum stage line_start(struct checker *c, place *at)
-{
-    c->length = 0;
-    return *(*at)++ == BAR ? CODE : refuse(c, 1, 0);
-}
-
-static void begin_field(struct checker *c, const struct kind *kind)
-{
-    c->kind = kind;
-    c->length = 0;
-    c->value = 0;
-    c->wrong = false;
-}
 
 /* A byte from 0 to 31 in a field. */
 static unsigned judge_control(const struct checker *c, uint8_t byte)
 {
     return c->length == 0 && (byte == CR || byte == LF) ? 7 : 2;
+}
+
+/* Here no byte is wrong yet: a field that had one was refused. */
+static enum stage begin_field(struct checker *c)
+{
+    if (c->left == 0)
+        return LINE_END;
+    c->length = 0;
+    c->value = 0;
+    c->comma = 0;
+    return (enum stage)c->kind->form;
+}
+
+static enum stage begin_row(struct checker *c, const struct row *row)
+{
+    unsigned number = judge_row(c, row);
+    if (number != 0)
+        return refuse(c, number, 1);
+    c->kind = row->kinds;
+    c->left = row->fields - 1;
+    return begin_field(c);
 }
 
 static enum stage code_field(struct checker *c, place *at, place end)
@@ -517,64 +532,35 @@ static enum stage code_field(struct checker *c, place *at, place end)
     for (; *at != end && !special[**at]; ++*at)
         code = code << 8 | **at;
     c->code = code;
-    c->length += *at - from;
+    c->length += (uint64_t)(*at - from);
     if (*at == end)
         return CODE;
     uint8_t byte = *(*at)++;
-    unsigned number = byte == BAR ? judge_code(c) : judge_control(c, byte);
+    if (byte != BAR)
+        return refuse(c, judge_control(c, byte), 1);
+    return begin_row(c, find_row(c->code, c->length));
+}
+
+static enum stage line_start(struct checker *c, place *at)
+{
+    c->length = 0;
+    return *(*at)++ == BAR ? CODE : refuse(c, 1, 0);
+}
+
+/* Takes in bytes of a field after the first, which stop at `to`. */
+static enum stage field(struct checker *c, enum stage stage, place to, place *at, place end)
+{
+    c->length += (uint64_t)(to - *at);
+    *at = to;
+    if (to == end)
+        return stage;
+    ++*at;
+    unsigned number = *to == BAR ? judge_field(c) : judge_control(c, *to);
     if (number != 0)
-        return refuse(c, number, 1);
-    begin_field(c, c->row->kinds);
-    c->left = c->row->fields - 1;
-    return c->kind == NULL ? UNTYPED : TYPED;
-}
-
-static uint32_t field_number(const struct checker *c)
-{
-    return c->row->fields + 1 - c->left;
-}
-
-static enum stage typed_fields(struct checker *c, place *at, place end)
-{
-    do {
-        place from = *at;
-        *at = take(c, from, end);
-        c->length += *at - from;
-        if (*at == end)
-            return TYPED;
-        uint8_t byte = *(*at)++;
-        unsigned number = byte == BAR ? judge_field(c) : judge_control(c, byte);
-        if (number != 0)
-            return refuse(c, number, field_number(c));
-        if (--c->left == 0)
-            return LINE_END;
-        begin_field(c, c->kind + 1);
-    } while (*at != end);
-    return TYPED;
-}
-
-/* All fields after the first of a line that is not typed. */
-static enum stage untyped_fields(struct checker *c, place *at, place end)
-{
-    ptrdiff_t from = *at - end, i = from; /* counted up to 0 */
-    uint32_t left = c->left;
-    for (; i != 0; i++) {
-        if (!special[end[i]])
-            continue;
-        if (end[i] != BAR)
-            break;
-        if (--left == 0) {
-            *at = end + i + 1;
-            return LINE_END;
-        }
-    }
-    *at = end + i;
-    c->left = left;
-    if (i != from)
-        c->length = end[i - 1] != BAR;
-    if (i == 0)
-        return UNTYPED;
-    return refuse(c, judge_control(c, *(*at)++), field_number(c));
+        return refuse(c, number, c->row->fields + 1 - c->left);
+    c->kind++;
+    c->left--;
+    return begin_field(c);
 }
 
 static enum stage line_end(struct checker *c, place *at)
@@ -602,40 +588,48 @@ static enum stage file_end(struct checker *c, place *at)
 
 static enum stage go_on(struct checker *c, enum stage stage, place *at, place end)
 {
+    place to;
     switch (stage) {
     case LINE_START:
         return line_start(c, at);
     case CODE:
         return code_field(c, at, end);
-    case TYPED:
-        return typed_fields(c, at, end);
-    case UNTYPED:
-        return untyped_fields(c, at, end);
+    case IN_TEXT:
+        to = take_text(*at, end);
+        break;
+    case IN_FIXED:
+        to = take_fixed(c, *at, end);
+        break;
+    case IN_DIGITS:
+        to = take_digits(c, *at, end);
+        break;
+    case IN_DECIMALS:
+        to = take_decimals(c, *at, end);
+        break;
     case LINE_END:
         return line_end(c, at);
     case LINE_FEED:
         return line_feed(c, at);
-    default:
+    case FILE_END:
         return file_end(c, at);
+    default:
+        to = take_value(c, *at, end);
     }
+    return field(c, stage, to, at, end);
 }
 
-/* How far a stage may run: to the piece's end, or one byte, to compare with a checker that steps byte by byte. */
-#ifdef BYTE_BY_BYTE
-#define REACH(at, end) ((at) + 1)
-#else
-#define REACH(at, end) (end)
-#endif
-
-/* The stage is kept in a variable, so that the compiler can join stages. */
+/* The stage is kept in a variable, and not looked at where it stays, so that the compiler can join stages. */
 static void judge(struct checker *c, place bytes, uint64_t length)
 {
     place at = bytes, end = bytes + length;
     enum stage stage = c->stage;
-    while (at != end && stage != REFUSED)
-        stage = go_on(c, stage, &at, REACH(at, end));
+    while (at != end) {
+        enum stage next = go_on(c, stage, &at, STEPS ? at + 1 : end);
+        if (next != stage && (stage = next) == REFUSED)
+            break;
+    }
     c->stage = stage;
-    c->bytes += at - bytes;
+    c->bytes += (uint64_t)(at - bytes);
 }
 
 /* --------------------------------------------------------------- the calls */
