@@ -490,12 +490,79 @@ static place take_value(struct checker *c, place at, place end)
     return at;
 }
 
+/*
+ * These find the bar of a field that breaks no rule, NULL for any other: that
+ * one is for those above. A line's end is known to come in the piece, so the
+ * piece's end needs no look.
+ */
+
+static place pass_text(place from, uint32_t size)
+{
+    place at = from;
+    while (!special[*at])
+        at++;
+    return *at == BAR && at - from <= size ? at : NULL;
+}
+
+/* Over a digit and all that follow. */
+static place pass_some(place at)
+{
+    do
+        at++;
+    while (digit[*at]);
+    return at;
+}
+
+static place pass_digits(place from, uint32_t size)
+{
+    if (!digit[*from])
+        return *from == BAR ? from : NULL;
+    place at = pass_some(from);
+    return *at == BAR && (size == 0 || at - from == size) ? at : NULL;
+}
+
+static place pass_decimals(place from, uint32_t decimals)
+{
+    if (!digit[*from])
+        return *from == BAR ? from : NULL;
+    place at = pass_some(from);
+    if (*at != ',')
+        return NULL;
+    for (; decimals != 0; decimals--)
+        if (!digit[*++at])
+            return NULL;
+    return *++at == BAR ? at : NULL;
+}
+
+static place pass_date(place from, uint32_t size)
+{
+    place at = from;
+    uint32_t value = 0;
+    for (; digit[*at]; at++)
+        value = value * 10 + (uint32_t)(*at - '0');
+    if (*at != BAR)
+        return NULL;
+    return at == from || (at - from == size && is_date(value)) ? at : NULL;
+}
+
+/* Two decimals are so frequent that they get a loop of their own. */
+static place pass_field(const struct kind *kind, place at)
+{
+    if (kind->form == DECIMALS)
+        return kind->size == 2 ? pass_decimals(at, 2) : pass_decimals(at, kind->size);
+    if (kind->form == DIGITS)
+        return pass_digits(at, kind->size);
+    if (kind->form == TEXT)
+        return pass_text(at, kind->size);
+    return kind->form == DATE ? pass_date(at, kind->size) : NULL;
+}
+
 /* ------------------------------------------------------ lines, byte by byte */
 
 /*
  * Those that give a stage take in bytes, at least one in the stage they are
  * called for, move `at` behind them and say in which stage the next byte
- * comes.
+ * comes. Behind `last` no line of the piece ends.
  */
 
 /* A byte from 0 to 31 in a field. */
@@ -504,9 +571,27 @@ static unsigned judge_control(const struct checker *c, uint8_t byte)
     return c->length == 0 && (byte == CR || byte == LF) ? 7 : 2;
 }
 
-/* Here no byte is wrong yet: a field that had one was refused. */
-static enum stage begin_field(struct checker *c)
+/* Over the fields of the line, up to one that breaks a rule or is of a rare form. */
+static place pass_fields(struct checker *c, place at)
 {
+    const struct kind *kind = c->kind;
+    uint32_t left = c->left;
+    place bar;
+    while (left != 0 && (bar = pass_field(kind, at)) != NULL) {
+        at = bar + 1;
+        kind++;
+        left--;
+    }
+    c->kind = kind;
+    c->left = left;
+    return at;
+}
+
+/* Here no byte is wrong yet: a field that had one was refused. */
+static enum stage begin_field(struct checker *c, place *at, place last)
+{
+    if (!STEPS && *at < last)
+        *at = pass_fields(c, *at);
     if (c->left == 0)
         return LINE_END;
     c->length = 0;
@@ -515,17 +600,22 @@ static enum stage begin_field(struct checker *c)
     return (enum stage)c->kind->form;
 }
 
-static enum stage begin_row(struct checker *c, const struct row *row)
+static uint32_t four_bytes(place at)
+{
+    return (uint32_t)at[0] << 24 | (uint32_t)at[1] << 16 | (uint32_t)at[2] << 8 | at[3];
+}
+
+static enum stage begin_row(struct checker *c, const struct row *row, place *at, place last)
 {
     unsigned number = judge_row(c, row);
     if (number != 0)
         return refuse(c, number, 1);
     c->kind = row->kinds;
     c->left = row->fields - 1;
-    return begin_field(c);
+    return begin_field(c, at, last);
 }
 
-static enum stage code_field(struct checker *c, place *at, place end)
+static enum stage code_field(struct checker *c, place *at, place end, place last)
 {
     place from = *at;
     uint32_t code = c->code;
@@ -538,17 +628,26 @@ static enum stage code_field(struct checker *c, place *at, place end)
     uint8_t byte = *(*at)++;
     if (byte != BAR)
         return refuse(c, judge_control(c, byte), 1);
-    return begin_row(c, find_row(c->code, c->length));
+    return begin_row(c, find_row(c->code, c->length), at, last);
 }
 
-static enum stage line_start(struct checker *c, place *at)
+/* A row's code that stands whole in the piece is taken in at once. */
+static enum stage line_start(struct checker *c, place *at, place end, place last)
 {
+    if (*(*at)++ != BAR)
+        return refuse(c, 1, 0);
     c->length = 0;
-    return *(*at)++ == BAR ? CODE : refuse(c, 1, 0);
+    if (end - *at < 5 || (*at)[4] != BAR)
+        return CODE;
+    const struct row *row = find_row(four_bytes(*at), 4);
+    if (row == NULL)
+        return CODE;
+    *at += 5;
+    return begin_row(c, row, at, last);
 }
 
 /* Takes in bytes of a field after the first, which stop at `to`. */
-static enum stage field(struct checker *c, enum stage stage, place to, place *at, place end)
+static enum stage field(struct checker *c, enum stage stage, place to, place *at, place end, place last)
 {
     c->length += (uint64_t)(to - *at);
     *at = to;
@@ -560,7 +659,7 @@ static enum stage field(struct checker *c, enum stage stage, place to, place *at
         return refuse(c, number, c->row->fields + 1 - c->left);
     c->kind++;
     c->left--;
-    return begin_field(c);
+    return begin_field(c, at, last);
 }
 
 static enum stage line_end(struct checker *c, place *at)
@@ -586,14 +685,14 @@ static enum stage file_end(struct checker *c, place *at)
     return refuse(c, 15, 0);
 }
 
-static enum stage go_on(struct checker *c, enum stage stage, place *at, place end)
+static enum stage go_on(struct checker *c, enum stage stage, place *at, place end, place last)
 {
     place to;
     switch (stage) {
     case LINE_START:
-        return line_start(c, at);
+        return line_start(c, at, end, last);
     case CODE:
-        return code_field(c, at, end);
+        return code_field(c, at, end, last);
     case IN_TEXT:
         to = take_text(*at, end);
         break;
@@ -615,16 +714,23 @@ static enum stage go_on(struct checker *c, enum stage stage, place *at, place en
     default:
         to = take_value(c, *at, end);
     }
-    return field(c, stage, to, at, end);
+    return field(c, stage, to, at, end, last);
+}
+
+static place behind_last_line(place bytes, place end)
+{
+    while (end != bytes && end[-1] != LF)
+        end--;
+    return end;
 }
 
 /* The stage is kept in a variable, and not looked at where it stays, so that the compiler can join stages. */
 static void judge(struct checker *c, place bytes, uint64_t length)
 {
-    place at = bytes, end = bytes + length;
+    place at = bytes, end = bytes + length, last = STEPS ? bytes : behind_last_line(bytes, end);
     enum stage stage = c->stage;
     while (at != end) {
-        enum stage next = go_on(c, stage, &at, STEPS ? at + 1 : end);
+        enum stage next = go_on(c, stage, &at, STEPS ? at + 1 : end, last);
         if (next != stage && (stage = next) == REFUSED)
             break;
     }
