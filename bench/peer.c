@@ -874,7 +874,7 @@ static bool obey_input(void)
     size_t got;
     start(&checker);
     while ((got = fread(head, 1, sizeof head, stdin)) == sizeof head) {
-        uint32_t length = head[1] | head[2] << 8 | head[3] << 16 | (uint32_t)head[4] << 24;
+        uint32_t length = (uint32_t)(head[1] | head[2] << 8 | head[3] << 16) | (uint32_t)head[4] << 24;
         if (!obey(head[0], length))
             return false;
     }
