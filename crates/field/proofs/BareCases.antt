@@ -9,7 +9,7 @@ use Rattle.field.specs.BareCases.{barFinds, wordCases}
 
 pub word-cases : map (λ c. c .says) wordCases ≡ map (λ c. c .given) wordCases
 unfolding wordCases barFinds bytes kindNumber isDigit isLeapYear daysOf isDate Streaming.valueWith
-    Streaming.digitWith Streaming.commaFits Streaming.decimalsWith Streaming.decimalWith Streaming.isPlain
+    Streaming.digitWith Streaming.commaFits Streaming.decimalsWith Streaming.decimalWith
     Streaming.withByte Streaming.fieldAfter Streaming.rightForm Streaming.isExact Streaming.rightSize
     Streaming.contentFault Streaming.numberFault Streaming.textFault Streaming.isTextClass Streaming.faultOf
 word-cases = refl

@@ -10,13 +10,13 @@ use lib.ListN.{length}
 use borrow.Author.Tests.{ne-eqb, eqb-true, eqb-false, lt-leb, le-ltb, lt-ltb, leb-true, leb-false}
 use Rattle.layout.specs.Pick.{pick}
 use Rattle.layout.specs.Text.{bytes}
-use Rattle.layout.specs.Kinds.{Kind, codeField, free, C, N, N-, decimals, date, lfpd, brasil, opens, count}
+use Rattle.layout.specs.Kind.{Kind, codeField, C, N, N-, decimals, date, lfpd, brasil, opens, count, noField}
 use Rattle.layout.specs.Packed.{kindNumber, sizeUnit, cClass, nClass, nAnyClass, decimalsClass}
 use Rattle.layout.specs.Packed.{dateClass, lfpdClass, brasilClass, opensClass, countClass}
 use Rattle.rules.specs.Bytes.{empty}
 use Rattle.rules.specs.Fields.{isDigit, allDigits, value, isDecimal, isDate, sameBytes, isText, formOf, states}
 use Rattle.field.specs.declared.bytes.Field.{Field}
-use Rattle.field.specs.Streaming.{cap, digitWith, textWith, decimalWith, isPlain, withByte}
+use Rattle.field.specs.Streaming.{cap, digitWith, textWith, decimalWith, withByte}
 use Rattle.field.specs.Streaming.{fieldAfter, emptyFault, rightForm, isExact, rightSize, contentFault}
 use Rattle.field.specs.Streaming.{numberFault, textFault, isTextClass, faultOf}
 use Rattle.field.specs.Ruled.{ruled}
@@ -53,10 +53,10 @@ unfolding kindNumber faultOf ruled formOf empty
 code-bar due [] = refl
 code-bar due (b ∷ w) = refl
 
-free-bar : (due : ℕ) (w : List ℕ) → Agrees free due w
+no-field-bar : (due : ℕ) (w : List ℕ) → Agrees noField due w
 unfolding kindNumber faultOf ruled formOf empty
-free-bar due [] = refl
-free-bar due (b ∷ w) = refl
+no-field-bar due [] = refl
+no-field-bar due (b ∷ w) = refl
 
 -- texts: longer than the size, and then another than the fixed text
 over : (s n : ℕ) → ltb s n ≡ not (leb n s)
@@ -77,12 +77,12 @@ text-bar kind c text on other w =
     rw (text-is kind text on w, other, length-is kind w, over (length text) (length w), turned (sameBytes w (reverse text)) 12)
 
 lfpd-bar : (due : ℕ) (w : List ℕ) → Agrees lfpd due w
-unfolding kindNumber faultOf isTextClass withByte isPlain fieldAfter ruled formOf empty isText bytes
+unfolding kindNumber faultOf isTextClass withByte fieldAfter ruled formOf empty isText bytes
 lfpd-bar due [] = text-bar (kindNumber lfpd) lfpdClass (bytes "LFPD") (λ f b. refl) refl []
 lfpd-bar due (b ∷ w) = text-bar (kindNumber lfpd) lfpdClass (bytes "LFPD") (λ f b. refl) refl (b ∷ w)
 
 brasil-bar : (due : ℕ) (w : List ℕ) → Agrees brasil due w
-unfolding kindNumber faultOf isTextClass withByte isPlain fieldAfter ruled formOf empty isText bytes
+unfolding kindNumber faultOf isTextClass withByte fieldAfter ruled formOf empty isText bytes
 brasil-bar due [] = text-bar (kindNumber brasil) brasilClass (bytes "Brasil") (λ f b. refl) refl []
 brasil-bar due (b ∷ w) = text-bar (kindNumber brasil) brasilClass (bytes "Brasil") (λ f b. refl) refl (b ∷ w)
 
@@ -112,7 +112,7 @@ module _ (kind c n : ℕ) (on : (f : Field) (b : ℕ) → withByte kind f b ≡ 
       (length-is kind (b ∷ w)) (digits-value kind on (b ∷ w))
 
 N-on : (s : ℕ) (f : Field) (b : ℕ) → withByte (kindNumber (N s)) f b ≡ digitWith f b
-unfolding kindNumber withByte isPlain
+unfolding kindNumber withByte
 N-on s f b = rw (class-of nClass s (omega arith))
 
 N-bar : (s due : ℕ) (w : List ℕ) → Agrees (N s) due w
@@ -124,14 +124,14 @@ N-bar s due (b ∷ w) =
     ∙ in-turn (allDigits (b ∷ w)) (eqb (suc (length w)) s) 0 0 (λ p q. refl)
 
 N--bar : (due : ℕ) (w : List ℕ) → Agrees N- due w
-unfolding kindNumber faultOf isTextClass withByte isPlain fieldAfter
+unfolding kindNumber faultOf isTextClass withByte fieldAfter
     numberFault emptyFault rightSize isExact contentFault ruled formOf empty
 N--bar due [] = refl
 N--bar due (b ∷ w) =
     digits-bar (kindNumber N-) nAnyClass 0 (λ f b. refl) refl due b w ∙ in-turn (allDigits (b ∷ w)) true 0 0 (λ p q. refl)
 
 decimals-on : (d : ℕ) (f : Field) (b : ℕ) → withByte (kindNumber (decimals d)) f b ≡ decimalWith f b
-unfolding kindNumber withByte isPlain
+unfolding kindNumber withByte
 decimals-on d f b = rw (class-of decimalsClass d (omega arith))
 
 decimals-bar : (d due : ℕ) (w : List ℕ) → length w ≤ cap → Agrees (decimals d) due w
@@ -150,7 +150,7 @@ whole : (w : List ℕ) → allDigits w ≡ true → length w ≡ 8 → min cap (
 whole w p e = let h : value w < 10 ^ 8 = rw e at (value-below w p) in omega arith
 
 date-bar : (due : ℕ) (w : List ℕ) → Agrees date due w
-unfolding kindNumber faultOf isTextClass withByte isPlain fieldAfter
+unfolding kindNumber faultOf isTextClass withByte fieldAfter
     numberFault emptyFault rightSize isExact contentFault ruled formOf empty
 date-bar due [] = refl
 date-bar due (b ∷ w) =
@@ -175,7 +175,7 @@ one-digit b [] p q = zero-or-one b (leb-true 48 b (and-left (leb 48 b) (leb b 57
 one-digit b (c ∷ w) p q = absurd (let e = eqb-true (suc (suc (length w))) 1 q in omega arith)
 
 opens-bar : (due : ℕ) (w : List ℕ) → Agrees opens due w
-unfolding kindNumber faultOf isTextClass withByte isPlain fieldAfter numberFault
+unfolding kindNumber faultOf isTextClass withByte fieldAfter numberFault
     emptyFault rightSize isExact contentFault ruled formOf empty isText sameBytes bytes
 opens-bar due [] = refl
 opens-bar due (b ∷ w) =
@@ -185,7 +185,7 @@ opens-bar due (b ∷ w) =
     (λ p q. ap (λ t. pick t 0 12) (one-digit b w p q) ∙ turned text 12)
 
 count-bar : (due : ℕ) (w : List ℕ) → due < cap → Agrees count due w
-unfolding kindNumber faultOf isTextClass withByte isPlain fieldAfter numberFault
+unfolding kindNumber faultOf isTextClass withByte fieldAfter numberFault
     emptyFault rightSize isExact contentFault ruled formOf states empty
 count-bar due [] h = refl
 count-bar due (b ∷ w) h =
@@ -198,7 +198,6 @@ count-bar due (b ∷ w) h =
 pub fault-is : (k : Kind) (due : ℕ) (w : List ℕ) → due < cap → length w ≤ cap
     → faultOf (kindNumber k) (fieldAfter (kindNumber k) w) due ≡ ruled (formOf k) due w
 fault-is codeField due w h l = code-bar due w
-fault-is free due w h l = free-bar due w
 fault-is (C s) due w h l = C-bar s due w
 fault-is (N s) due w h l = N-bar s due w
 fault-is N- due w h l = N--bar due w
@@ -208,12 +207,9 @@ fault-is lfpd due w h l = lfpd-bar due w
 fault-is brasil due w h l = brasil-bar due w
 fault-is opens due w h l = opens-bar due w
 fault-is count due w h l = count-bar due w h
+fault-is noField due w h l = no-field-bar due w
 
--- of a free field nothing is asked, and what is due is asked of counts alone
-pub free-fault : (kind : ℕ) (f : Field) (due : ℕ) → kind ≡ 0 → faultOf kind f due ≡ 0
-unfolding faultOf
-free-fault kind f due e = rw e
-
+-- what is due is asked of counts alone
 pub countless-fault : (kind : ℕ) (f : Field) (m n : ℕ) → eqb (kind % sizeUnit) countClass ≡ false
     → faultOf kind f m ≡ faultOf kind f n
 unfolding faultOf numberFault contentFault

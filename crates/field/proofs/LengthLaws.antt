@@ -10,13 +10,13 @@ use lib.Dec.{eqb}
 use lib.ListN.{length}
 use Rattle.layout.specs.Pick.{pick}
 use Rattle.layout.specs.Text.{codeNumber}
-use Rattle.layout.specs.Kinds.{codeField}
-use Rattle.layout.specs.Packed.{kindNumber, codeClass, decimalsClass, sizeUnit}
+use Rattle.layout.specs.Kind.{codeField}
+use Rattle.layout.specs.Packed.{kindNumber, codeClass, cClass, decimalsClass, sizeUnit}
 use Rattle.rules.specs.Fields.{isDigit}
 use Rattle.rules.specs.Rules.{byteLimit}
 use Rattle.field.specs.declared.bytes.Field.{Field}
 use Rattle.field.specs.Streaming.{FieldFit, cap, longer, wrongWith, codeWith, valueWith, digitWith, matches, textWith}
-use Rattle.field.specs.Streaming.{commaFits, decimalsWith, decimalWith, isPlain, isFixedClass, fixedText, withByte}
+use Rattle.field.specs.Streaming.{commaFits, decimalsWith, decimalWith, isFixedClass, fixedText, withByte}
 use Rattle.field.specs.Streaming.{fieldAfter}
 
 -- what holds of both choices holds of the choice
@@ -36,7 +36,7 @@ module _ (P : Field → Type 0) (kind : ℕ) (f : Field) (b : ℕ) where
   unfolding withByte
   by-class plain code decimal text digit =
       let class = kind % sizeUnit in
-      either P (isPlain class) plain
+      either P (eqb class cClass) plain
       (either P (eqb class codeClass) code
       (either P (eqb class decimalsClass) decimal
       (either P (isFixedClass class) (text (fixedText class)) digit)))
@@ -54,7 +54,7 @@ length-is kind (b ∷ w) =
     one-longer kind (fieldAfter kind w) b ∙ add-one (fieldAfter kind w .length) ∙ ap suc (length-is kind w)
 
 pub code-is : (w : List ℕ) → fieldAfter (kindNumber codeField) w .value ≡ codeNumber w
-unfolding fieldAfter withByte isPlain kindNumber codeNumber
+unfolding fieldAfter withByte kindNumber codeNumber
 code-is [] = refl
 code-is (b ∷ w) = ap (λ v. v % 16777216 * 256 + b) (code-is w)
 

@@ -9,11 +9,11 @@ use lib.Dec.{eqb}
 use lib.ListN.{length}
 use Rattle.layout.specs.Pick.{pick}
 use Rattle.layout.specs.Text.{bytes}
-use Rattle.layout.specs.Kinds.{opens}
+use Rattle.layout.specs.Kind.{opens}
 use Rattle.layout.specs.Packed.{kindNumber}
 use Rattle.rules.specs.Bytes.{empty}
 use Rattle.rules.specs.Fields.{allDigits, sameBytes, isText, formOf}
-use Rattle.field.specs.Streaming.{valueWith, digitWith, isPlain, withByte, fieldAfter}
+use Rattle.field.specs.Streaming.{valueWith, digitWith, withByte, fieldAfter}
 use Rattle.field.specs.Ruled.{ruled}
 use Rattle.rules.proofs.TestLaws.{split}
 use Rattle.field.proofs.TextLaws.{same-eq}
@@ -37,5 +37,5 @@ digit-text due w e =
 
 pub opens-zero : (due : ℕ) (w : List ℕ) → ruled (formOf opens) due w ≡ 0
     → isText "0" w ≡ eqb (fieldAfter (kindNumber opens) w .value) 0
-unfolding isText sameBytes bytes kindNumber fieldAfter withByte isPlain digitWith valueWith
+unfolding isText sameBytes bytes kindNumber fieldAfter withByte digitWith valueWith
 opens-zero due w e = ⊎-elim (λ p. rw p) (λ p. rw p) (digit-text due w e)

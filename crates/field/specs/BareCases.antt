@@ -4,7 +4,7 @@ use Prim.Native.Nat.{ℕ}
 use Prim.Native.String.{String}
 use lib.ListN.{replicate}
 use Rattle.layout.specs.Text.{bytes}
-use Rattle.layout.specs.Kinds.{Kind, C-, N, decimals, date, count}
+use Rattle.layout.specs.Kind.{Kind, C-, N, decimals, date, count}
 use Rattle.layout.specs.Packed.{kindNumber}
 use Rattle.rules.specs.BareCases.{Bare, bare}
 use Rattle.field.specs.Streaming.{fieldAfter, faultOf}

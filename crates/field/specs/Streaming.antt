@@ -6,7 +6,7 @@ use lib.Dec.{eqb, leb, ltb}
 use lib.ListN.{getD}
 use Rattle.layout.specs.Pick.{pick}
 use Rattle.layout.specs.Text.{bytes}
-use Rattle.layout.specs.Packed.{brasilClass, cClass, codeClass, countClass, dateClass, decimalsClass, freeClass, lfpdClass}
+use Rattle.layout.specs.Packed.{brasilClass, cClass, codeClass, countClass, dateClass, decimalsClass, lfpdClass}
 use Rattle.layout.specs.Packed.{nClass, opensClass, sizeUnit}
 use Rattle.rules.specs.Fields.{isDigit, isDate, comma}
 use Rattle.rules.specs.Rules.{byteLimit}
@@ -60,10 +60,6 @@ unfoldable pub decimalWith : Field → ℕ → Field
 decimalWith f b =
     pick (isDigit b) (longer f (f .wrong) (decimalsWith (f .value))) (longer f (wrongWith (commaFits f b) f) 1)
 
--- of free fields and texts only the length is asked
-unfoldable pub isPlain : ℕ → Bool
-isPlain class = eqb class freeClass || eqb class cClass
-
 -- the classes of the fixed texts, and the text of each
 abbrev pub isFixedClass : ℕ → Bool
 isFixedClass class = eqb class lfpdClass || eqb class brasilClass
@@ -71,10 +67,11 @@ isFixedClass class = eqb class lfpdClass || eqb class brasilClass
 abbrev pub fixedText : ℕ → List ℕ
 fixedText class = pick (eqb class lfpdClass) (bytes "LFPD") (bytes "Brasil")
 
+-- of a text only the length is asked
 unfoldable pub withByte : ℕ → Field → ℕ → Field
 withByte kind f b =
     let class = kind % sizeUnit in
-    pick (isPlain class) (longer f (f .wrong) (f .value))
+    pick (eqb class cClass) (longer f (f .wrong) (f .value))
     (pick (eqb class codeClass) (codeWith f b)
     (pick (eqb class decimalsClass) (decimalWith f b)
     (pick (isFixedClass class) (textWith (fixedText class) f b) (digitWith f b))))

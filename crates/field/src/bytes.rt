@@ -3,12 +3,10 @@ ghost use mathlib.Core.Path.{_≡_};
 ghost use Prim.Native.Nat.{_≤_};
 ghost use Rattle.rules.specs.Fields.{isDigit};
 ghost use Rattle.field.specs.Streaming.{FieldFit, cap, emptyField, codeWith, valueWith, digitWith, matches, textWith};
-ghost use Rattle.field.specs.Streaming.{commaFits, decimalsWith, decimalWith, isPlain, isFixedClass, fixedText, withByte};
+ghost use Rattle.field.specs.Streaming.{commaFits, decimalsWith, decimalWith, isFixedClass, fixedText, withByte};
 
 // The classes of kinds: a kind's number is its class plus SIZE_UNIT times its size.
 pub const SIZE_UNIT: u64 = layout::kinds::SIZE_UNIT as u64;
-
-pub const CLASS_FREE: u64 = layout::kinds::CLASS_FREE as u64;
 
 pub const CLASS_CODE: u64 = layout::kinds::CLASS_CODE as u64;
 
@@ -189,13 +187,6 @@ fn decimal_with(f: Field, b: u8) -> Field
     }
 }
 
-// Of free fields and texts only the length is asked.
-fn is_plain(class: u64) -> bool
-    ensures { λ r. ⌜ r ≡ isPlain class ⌝ }
-{
-    class == CLASS_FREE || class == CLASS_C
-}
-
 // Of a fixed text each byte is asked.
 pub fn is_fixed_class(class: u64) -> bool
     ensures { λ r. ⌜ r ≡ isFixedClass class ⌝ }
@@ -203,13 +194,13 @@ pub fn is_fixed_class(class: u64) -> bool
     class == CLASS_LFPD || class == CLASS_BRASIL
 }
 
-// One more byte of a field of this kind.
+// One more byte of a field of this kind; of a text only the length is asked.
 pub fn with_byte(kind: u64, f: Field, b: u8) -> Field
     requires { ⌜ FieldFit f ⌝ }
     ensures { λ r. ⌜ r ≡ withByte kind f b ⌝ }
 {
     let class = kind % SIZE_UNIT;
-    if is_plain(class) {
+    if class == CLASS_C {
         return Field {
             length: f.length + 1,
             wrong: f.wrong,

@@ -1,106 +1,146 @@
--- Rules of the kinds: a row has one for each field, they stand in the flat table from the row's start on,
--- field 2 of an opening alone has the kind opens, and no kind's number is above mostKind.
+-- Rules of the kinds: a row has one for each field, each of them one that 01 knows; they stand in the flat table from the
+-- row's start on, and field 2 of an opening alone has the kind opens.
 use mathlib.Core.Path.{_≡_, refl, sym, ap}
-use mathlib.Core.Bool.{Bool, true, _&&_}
-use mathlib.Core.List.{List, [], _∷_}
+use mathlib.Core.Bool.{Bool, true, false, not, _&&_, and-false}
+use mathlib.Core.List.{[], _∷_}
 use Prim.Native.Nat.{ℕ, zero, suc, _+_, _-_, _<_, _≤_, zero-le}
-use native.Mathlib.Nat.{zero-add, le-of-lt}
+use native.Mathlib.Nat.{zero-add}
 use native.Mathlib.Decide.{decLt}
 use native.Mathlib.Omega.{arith}
-use lib.Dec.{T, eqb, leb, leb→le}
+use lib.Dec.{T, eqb, leb, leb→le, eqb→eq, lit≤}
+use lib.Ieee.Bits.{is-true}
 use lib.Ieee.Fits.{and-l, and-r}
 use lib.ListN.{length, getD, List·getD-eq-default}
-use borrow.Author.Tests.{ne-eqb}
+use borrow.Author.Tests.{ne-eqb, not-true}
 use Rattle.layout.specs.Text.{bytes, codeNumber, textNumber}
-use Rattle.layout.specs.Rows.{rowTable, rowCount, listed, code, fields, mostFields, isOpening, isClosing, row9999}
-use Rattle.layout.specs.Kinds.{Kind, codeField, free, opens, sheets, sheetOr, kindsOf, kind, fieldCount, rowStart}
+use Rattle.layout.specs.Rows.{rowTable, rowCount, listed, code, fields, isOpening, isClosing, row9999}
+use Rattle.layout.specs.Kind.{Kind, codeField, C, N, N-, decimals, date, lfpd, brasil, opens, count, noField}
+use Rattle.layout.specs.Kind.{mostSize, isKnown}
+use Rattle.layout.specs.Sheets.{sheets}
+use Rattle.layout.specs.Kinds.{kindOf, sheetOf, fitted, kindsOf, kind, fieldCount, rowStart}
 use Rattle.layout.specs.Packed.{kindNumber, mostKind, flatKinds}
-use Rattle.layout.proofs.Below.{below, below-at, below-equal, agree, below-same}
-use Rattle.layout.proofs.RowLaws.{listed-none, fields-most}
+use Rattle.layout.proofs.Below.{below, below-at, those, those-at}
+use Rattle.layout.proofs.Every.{every, every-at, every-or}
+use Rattle.layout.proofs.RowLaws.{listed-none}
 use Rattle.layout.proofs.ListLaws.{Starts, part-ends, joined-at}
 
 field-count : rowStart rowCount ≡ fieldCount
 unfolding rowStart fields listed rowTable
 field-count = refl
 
--- the kinds of a row are as many as its fields
-fit : T (below rowCount (λ r. eqb (length (kindsOf r)) (fields r)))
-unfolding below kindsOf sheetOr sheets isOpening isClosing fields code listed rowTable textNumber codeNumber bytes
-fit = tt
+-- "each row's part has exactly its number of fields, each of a kind 01 knows": computed once over the whole table
+abbrev fits : ℕ → Bool
+fits r = eqb (length (kindsOf r)) (fields r) && every isKnown (kindsOf r)
 
-parts-fit : (r : ℕ) → r < rowCount → length (kindsOf r) ≡ fields r
-parts-fit = below-equal rowCount (λ r. length (kindsOf r)) fields fit
+parts-fit : T (below rowCount fits)
+unfolding below every isKnown kindsOf fitted kindOf sheetOf sheets isOpening isClosing
+    fields code listed rowTable textNumber codeNumber bytes
+parts-fit = tt
+
+fit-at : (r : ℕ) → r < rowCount → T (fits r)
+fit-at = below-at rowCount fits parts-fit
+
+part-length : (r : ℕ) → r < rowCount → length (kindsOf r) ≡ fields r
+part-length r h = eqb→eq _ _ (and-l (eqb (length (kindsOf r)) (fields r)) (every isKnown (kindsOf r)) (fit-at r h))
+
+part-known : (r : ℕ) → r < rowCount → T (every isKnown (kindsOf r))
+part-known r h = and-r (eqb (length (kindsOf r)) (fields r)) (every isKnown (kindsOf r)) (fit-at r h)
+
+-- every field has a kind that 01 knows
+pub field-known : (r n : ℕ) → r < rowCount → 1 ≤ n → n ≤ fields r → T (isKnown (kind r n))
+unfolding kind
+field-known r n h one le =
+    let len = part-length r h in
+    every-at isKnown (kindsOf r) (part-known r h) (n - 1) noField (omega arith)
 
 starts : Starts rowCount kindsOf rowStart
 unfolding rowStart
-starts r h = ap (λ n. rowStart r + n) (sym (parts-fit r h))
+starts r h = ap (λ n. rowStart r + n) (sym (part-length r h))
 
 -- the fields of a row end where the next row starts, within the table
 pub fields-within : (r : ℕ) → r < rowCount → rowStart r + fields r ≤ fieldCount
-fields-within r h = rw (← parts-fit r h, ← field-count) (part-ends rowCount kindsOf rowStart starts r h)
+fields-within r h = rw (← part-length r h, ← field-count) (part-ends rowCount kindsOf rowStart starts r h)
 
-pub flat-kind : (r n : ℕ) → r < rowCount → 1 ≤ n → n ≤ fields r → getD flatKinds (rowStart r + (n - 1)) free ≡ kind r n
+pub flat-kind : (r n : ℕ) → r < rowCount → 1 ≤ n → n ≤ fields r → getD flatKinds (rowStart r + (n - 1)) noField ≡ kind r n
 unfolding flatKinds kind rowStart
 flat-kind r n h one le =
-    let len = parts-fit r h in
-    joined-at rowCount kindsOf rowStart starts r (n - 1) (rowStart r + (n - 1)) free h (omega arith) (zero-add (rowStart r + (n - 1)))
+    let len = part-length r h in
+    joined-at rowCount kindsOf rowStart starts r (n - 1) (rowStart r + (n - 1)) noField h (omega arith)
+    (zero-add (rowStart r + (n - 1)))
 
--- past a row's fields none is to come
-pub kind-past : (r n : ℕ) → r < rowCount → fields r < n → kind r n ≡ free
+-- past a row's fields there is none
+pub kind-past : (r n : ℕ) → r < rowCount → fields r < n → kind r n ≡ noField
 unfolding kind
-kind-past r n h past = let len = parts-fit r h in List·getD-eq-default (kindsOf r) free (omega arith)
+kind-past r n h past = let len = part-length r h in List·getD-eq-default (kindsOf r) noField (omega arith)
 
-abbrev isOpens : ℕ → ℕ → Bool
-isOpens r n = eqb (kindNumber (kind r n)) (kindNumber opens)
+-- field 2 of an opening alone has the kind opens: computed once, at the kinds of the other rows
+abbrev isOpens : Kind → Bool
+isOpens k = eqb (kindNumber k) (kindNumber opens)
 
--- the fields of kind opens are field 2 of each opening: tested at the fields that a row may have
-abbrev opensAt : ℕ → Bool
-opensAt r = below (suc mostFields) (λ n. agree (isOpens r n) (eqb n 2 && isOpening r))
+abbrev noOpens : Kind → Bool
+noOpens k = not (isOpens k)
 
-computed : T (below rowCount opensAt)
-unfolding below kindNumber kind kindsOf sheetOr sheets isOpening isClosing fields code listed rowTable textNumber codeNumber bytes
-computed = tt
+abbrev isOther : ℕ → Bool
+isOther r = not (isOpening r)
+
+abbrev opensless : ℕ → Bool
+opensless r = every noOpens (kindsOf r)
+
+others-opensless : T (those rowCount isOther opensless)
+unfolding those below every kindNumber kindsOf fitted kindOf sheetOf sheets isOpening isClosing
+    fields code listed rowTable textNumber codeNumber bytes
+others-opensless = tt
+
+in-opening : (n : ℕ) → isOpens (getD (codeField ∷ opens ∷ []) (n - 1) noField) ≡ (eqb n 2 && true)
+unfolding kindNumber
+in-opening zero = refl
+in-opening (suc zero) = refl
+in-opening (suc (suc zero)) = refl
+in-opening (suc (suc (suc n))) =
+    rw (
+      ne-eqb (suc (suc (suc n))) 2 (λ e. omega arith),
+      List·getD-eq-default (codeField ∷ opens ∷ []) noField {n = suc (suc (suc n)) - 1} (omega arith),
+    )
 
 pub opens-kind : (r n : ℕ) → r < rowCount → eqb (kindNumber (kind r n)) (kindNumber opens) ≡ (eqb n 2 && isOpening r)
-opens-kind r n h = go (decLt n (suc mostFields))
+unfolding kind kindNumber
+opens-kind r n h = go (isOpening r) refl
   where
-    go : Dec (n < suc mostFields) → isOpens r n ≡ (eqb n 2 && isOpening r)
-    go (yes l) =
-        below-same (suc mostFields) (isOpens r) (λ n. eqb n 2 && isOpening r) (below-at rowCount opensAt computed r h) n l
-    go (no l) =
-        let most = fields-most r (le-of-lt h) in
-        let past : fields r < n = omega arith in
-        rw (kind-past r n h past, ne-eqb n 2 (λ e. omega arith)) (unfold kindNumber in refl)
+    go : (o : Bool) → isOpening r ≡ o → isOpens (kind r n) ≡ (eqb n 2 && isOpening r)
+    go true e = unfold kindsOf in rw e (in-opening n)
+    go false e =
+        let none = those-at rowCount isOther opensless others-opensless r h (rw e) in
+        let other = every-or noOpens (kindsOf r) none (n - 1) noField tt in
+        rw (e, not-true (isOpens (kind r n)) (is-true _ other), and-false (eqb n 2))
 
--- no kind's number is above mostKind: tested once, at the kinds of each row
-unfoldable small : List Kind → Bool
-small [] = true
-small (k ∷ ks) = leb (kindNumber k) mostKind && small ks
-
-rows-small : T (below rowCount (λ r. small (kindsOf r)))
-unfolding below small kindNumber kindsOf sheetOr sheets isOpening
-    isClosing fields code listed rowTable textNumber codeNumber bytes
-rows-small = tt
+-- no kind's number is above mostKind
+known-small : (k : Kind) → T (isKnown k) → kindNumber k ≤ mostKind
+unfolding isKnown kindNumber
+known-small codeField t = lit≤ tt
+known-small (C s) t = let h = leb→le s mostSize t in omega arith
+known-small (N s) t = let h = leb→le s mostSize (and-r (leb 1 s) (leb s mostSize) t) in omega arith
+known-small N- t = lit≤ tt
+known-small (decimals d) t = let h = leb→le d mostSize (and-r (leb 1 d) (leb d mostSize) t) in omega arith
+known-small date t = lit≤ tt
+known-small lfpd t = lit≤ tt
+known-small brasil t = lit≤ tt
+known-small opens t = lit≤ tt
+known-small count t = lit≤ tt
+known-small noField t = absurd t
 
 -- of "no row" only field 1 may come
 pub kinds-none : (r : ℕ) → rowCount ≤ r → kindsOf r ≡ codeField ∷ []
-unfolding kindsOf sheetOr sheets isOpening isClosing fields code textNumber codeNumber bytes
+unfolding kindsOf fitted kindOf sheetOf sheets isOpening isClosing fields code textNumber codeNumber bytes
 kinds-none r h = rw (listed-none r h, ne-eqb r row9999 (λ e. omega arith), fields)
 
-kinds-small : (r : ℕ) → T (small (kindsOf r))
-unfolding small kindNumber
-kinds-small r = go (decLt r rowCount)
-  where
-    go : Dec (r < rowCount) → T (small (kindsOf r))
-    go (yes h) = below-at rowCount (λ r. small (kindsOf r)) rows-small r h
-    go (no h) = rw (kinds-none r (omega arith)) tt
-
-small-at : (ks : List Kind) → T (small ks) → (n : ℕ) → kindNumber (getD ks n free) ≤ mostKind
-unfolding small kindNumber
-small-at [] t n = zero-le
-small-at (k ∷ ks) t zero = leb→le _ _ (and-l (leb (kindNumber k) mostKind) (small ks) t)
-small-at (k ∷ ks) t (suc n) = small-at ks (and-r (leb (kindNumber k) mostKind) (small ks) t) n
-
 pub kind-most : (r n : ℕ) → kindNumber (kind r n) ≤ mostKind
-unfolding kind
-kind-most r n = small-at (kindsOf r) (kinds-small r) (n - 1)
+unfolding kind kindNumber
+kind-most r n = go (decLt (n - 1) (length (kindsOf r)))
+  where
+    known : Dec (r < rowCount) → T (every isKnown (kindsOf r))
+    known (yes h) = part-known r h
+    known (no h) = unfold every isKnown in rw (kinds-none r (omega arith)) tt
+
+    go : Dec (n - 1 < length (kindsOf r)) → kindNumber (kind r n) ≤ mostKind
+    go (yes l) = known-small (kind r n) (every-at isKnown (kindsOf r) (known (decLt r rowCount)) (n - 1) noField l)
+    go (no l) = rw (List·getD-eq-default (kindsOf r) noField {n = n - 1} (omega arith)) zero-le

@@ -1,4 +1,6 @@
 pub mod Below
+pub mod Every
+pub mod Compared
 pub mod TabulateLaws
 pub mod ListLaws
 pub mod RowLaws
@@ -6,6 +8,7 @@ pub mod ParentLaws
 pub mod BlockLaws
 pub mod CodeLaws
 pub mod KindLaws
+pub mod Choices
 pub mod PackedLaws
 pub mod SlotLaws
 pub mod RoleLaws

@@ -6,7 +6,8 @@ use native.Mathlib.Nat.{le-of-lt}
 use native.Mathlib.Omega.{arith}
 use lib.ListN.{getD, List·getD-map}
 use Rattle.layout.specs.Rows.{rowTable, rowCount, noRow, listed, code, fields, level, occurrence, parent}
-use Rattle.layout.specs.Kinds.{free, kind, fieldCount, rowStart}
+use Rattle.layout.specs.Kind.{noField}
+use Rattle.layout.specs.Kinds.{kind, fieldCount, rowStart}
 use Rattle.layout.specs.Packed.{fourNumbers, rowNumbers, parentColumn, startColumn, kindNumber, flatKinds, packedKinds}
 use Rattle.layout.proofs.ListLaws.{with-default-at, map-at}
 use Rattle.layout.proofs.TabulateLaws.{tabulate-at}
@@ -48,7 +49,7 @@ start-entry r h = tabulate-at (suc rowCount) rowStart r 0 (suc-le-suc h)
 -- the kinds
 pub kind-entry : (r n : ℕ) → r < rowCount → 1 ≤ n → n ≤ fields r → getD packedKinds (rowStart r + (n - 1)) 0 ≡ kindNumber (kind r n)
 unfolding packedKinds kindNumber
-kind-entry r n h one le = List·getD-map kindNumber flatKinds (rowStart r + (n - 1)) free ∙ ap kindNumber (flat-kind r n h one le)
+kind-entry r n h one le = List·getD-map kindNumber flatKinds (rowStart r + (n - 1)) noField ∙ ap kindNumber (flat-kind r n h one le)
 
 -- a field's kind stands within the table
 pub kind-within : (starts : List ℕ) (r n : ℕ) → starts ≡ startColumn → r < rowCount → 1 ≤ n → n ≤ fields r

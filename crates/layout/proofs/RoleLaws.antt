@@ -10,7 +10,9 @@ use borrow.Author.Tests.{eqb-true, eq-eqb, ne-eqb, le-leb, not-true}
 use Rattle.layout.specs.Text.{bytes, codeNumber, textNumber}
 use Rattle.layout.specs.Rows.{rowTable, rowCount, none, listed, code, fields, level, block, placeOf, blockLetters}
 use Rattle.layout.specs.Rows.{isOpening, isClosing, lastAmong, parent, opening, row0000, row9990, row9999}
-use Rattle.layout.specs.Kinds.{codeField, opens, count, sheets, sheetOr, kindsOf, kind}
+use Rattle.layout.specs.Kind.{codeField, opens, count}
+use Rattle.layout.specs.Sheets.{sheets}
+use Rattle.layout.specs.Kinds.{kindOf, sheetOf, fitted, kindsOf, kind}
 use Rattle.layout.proofs.Below.{below, below-most, those, those-at}
 use Rattle.layout.proofs.RowLaws.{level-none}
 use Rattle.layout.proofs.BlockLaws.{shallow-roles, opening-before}
@@ -133,7 +135,7 @@ level-9999 = refl
 
 -- the kinds of field 1 and of field 2 in the frame
 pub none-kind : kind none 1 ≡ codeField
-unfolding kind kindsOf isOpening isClosing code fields listed rowTable bytes codeNumber textNumber sheets sheetOr
+unfolding kind kindsOf fitted kindOf sheetOf sheets isOpening isClosing code fields listed rowTable bytes codeNumber textNumber
 none-kind = refl
 
 pub opening-kind : (r : ℕ) → isOpening r ≡ true → kind r 2 ≡ opens

@@ -3,5 +3,8 @@ pub mod Lists
 pub mod Text
 pub mod Rows
 pub mod Climb
+pub mod Kind
+pub mod Sheets
 pub mod Kinds
+pub mod Choices
 pub mod Packed

@@ -5,7 +5,8 @@ use lib.ListN.{replicate, set}
 use Rattle.layout.specs.Lists.{tabulate, joinedParts}
 use Rattle.layout.specs.Text.{textNumber}
 use Rattle.layout.specs.Rows.{Listed, rowTable, noRow, rowCount, none, code, parent}
-use Rattle.layout.specs.Kinds.{Kind, codeField, free, C, N, N-, decimals, date, lfpd, brasil, opens, count}
+use Rattle.layout.specs.Kind.{Kind, codeField, C, N, N-, decimals, date, lfpd, brasil, opens, count, noField}
+use Rattle.layout.specs.Kind.{mostSize}
 use Rattle.layout.specs.Kinds.{kindsOf, rowStart}
 
 -- "constant table of the 98 rows (code, fields, level, occurrence)": these four numbers a row, and one row more for "no row"
@@ -27,8 +28,8 @@ unfoldable pub startColumn : List ℕ
 startColumn = column rowStart
 
 -- the classes of kinds
-abbrev pub freeClass : ℕ
-freeClass = 0
+abbrev pub noFieldClass : ℕ
+noFieldClass = 0
 
 abbrev pub codeClass : ℕ
 codeClass = 1
@@ -65,7 +66,6 @@ abbrev pub sizeUnit : ℕ
 sizeUnit = 16
 
 unfoldable pub kindNumber : Kind → ℕ
-kindNumber free = freeClass
 kindNumber codeField = codeClass
 kindNumber (C n) = cClass + sizeUnit * n
 kindNumber (N n) = nClass + sizeUnit * n
@@ -76,10 +76,11 @@ kindNumber lfpd = lfpdClass + sizeUnit * 4
 kindNumber brasil = brasilClass + sizeUnit * 6
 kindNumber opens = opensClass + sizeUnit * 1
 kindNumber count = countClass
+kindNumber noField = noFieldClass
 
--- a class is below sizeUnit, and a size at most 255: that of a C without a size
+-- a class is below sizeUnit
 abbrev pub mostKind : ℕ
-mostKind = sizeUnit * 256 - 1
+mostKind = sizeUnit * suc mostSize - 1
 
 -- "flat constant table of 995 field kinds, indexed through row starts"
 unfoldable pub flatKinds : List Kind

@@ -12,13 +12,16 @@ pub const FIELDS: usize = 995;
 // A kind's number is its class plus SIZE_UNIT times its size; where nothing is asked of the size, that is 0.
 pub const SIZE_UNIT: u32 = 16;
 
-// A class is below SIZE_UNIT, and a size at most 255.
-pub const KIND_MOST: u64 = SIZE_UNIT as u64 * 256 - 1;
+// The largest size: that of TXT, field 3 of 0450.
+const SIZE_MOST: u64 = 65536;
 
-// The classes. Any allowed bytes: the fields of a line that is not typed.
-pub const CLASS_FREE: u32 = 0;
+// A class is below SIZE_UNIT.
+pub const KIND_MOST: u64 = SIZE_UNIT as u64 * (SIZE_MOST + 1) - 1;
 
-// Field 1 of every line.
+// No field: it stands past a row's last one.
+pub const NO_FIELD: u32 = 0;
+
+// The classes. Field 1 of every line.
 pub const CLASS_CODE: u32 = 1;
 
 // C: at most so many bytes.
@@ -47,13 +50,15 @@ pub const CLASS_OPENS: u32 = 9;
 pub const CLASS_COUNT: u32 = 10;
 
 // The kinds of the table below.
-const FREE: u32 = CLASS_FREE;
-
 const CODE: u32 = CLASS_CODE;
 
 const C0: u32 = CLASS_C + SIZE_UNIT * 0;
 
+const C1: u32 = CLASS_C + SIZE_UNIT * 1;
+
 const C2: u32 = CLASS_C + SIZE_UNIT * 2;
+
+const C4: u32 = CLASS_C + SIZE_UNIT * 4;
 
 const C5: u32 = CLASS_C + SIZE_UNIT * 5;
 
@@ -61,7 +66,13 @@ const C9: u32 = CLASS_C + SIZE_UNIT * 9;
 
 const C10: u32 = CLASS_C + SIZE_UNIT * 10;
 
+const C20: u32 = CLASS_C + SIZE_UNIT * 20;
+
+const C45: u32 = CLASS_C + SIZE_UNIT * 45;
+
 const C255: u32 = CLASS_C + SIZE_UNIT * 255;
+
+const C65536: u32 = CLASS_C + SIZE_UNIT * 65536;
 
 const N1: u32 = CLASS_N + SIZE_UNIT * 1;
 
@@ -73,6 +84,8 @@ const N4: u32 = CLASS_N + SIZE_UNIT * 4;
 
 const N5: u32 = CLASS_N + SIZE_UNIT * 5;
 
+const N6: u32 = CLASS_N + SIZE_UNIT * 6;
+
 const N7: u32 = CLASS_N + SIZE_UNIT * 7;
 
 const N8: u32 = CLASS_N + SIZE_UNIT * 8;
@@ -82,6 +95,12 @@ const N11: u32 = CLASS_N + SIZE_UNIT * 11;
 const N14: u32 = CLASS_N + SIZE_UNIT * 14;
 
 const N_ANY: u32 = CLASS_N_ANY;
+
+const DECIMALS_2: u32 = CLASS_DECIMALS + SIZE_UNIT * 2;
+
+const DECIMALS_3: u32 = CLASS_DECIMALS + SIZE_UNIT * 3;
+
+const DECIMALS_6: u32 = CLASS_DECIMALS + SIZE_UNIT * 6;
 
 const DATE: u32 = CLASS_DATE + SIZE_UNIT * 8;
 
@@ -220,1095 +239,1095 @@ const STARTS: [usize; ENTRIES] = [
 const TABLE: [u32; FIELDS] = [
     // 0000
     CODE,
-    LFPD,
-    DATE,
-    DATE,
-    C255,
-    N14,
-    C2,
-    C255,
-    N7,
-    C255,
-    C0,
-    C9,
-    N4,
-    N1,
-    N2,
-    BRASIL,
-    C255,
-    N11,
-    N11,
-    C0,
+    LFPD, // LFPD
+    DATE, // DT_INI
+    DATE, // DT_FIN
+    C255, // NOME_EMPR
+    N14, // CNPJ
+    C2, // UF
+    C255, // IE
+    N7, // COD_MUN
+    C255, // IM
+    C0, // VAZIO1
+    C9, // SUFRAMA
+    N4, // COD_VER
+    N1, // COD_FIN
+    N2, // COD_CTD
+    BRASIL, // PAIS
+    C255, // FANTASIA
+    N11, // NIRE
+    N11, // CPF
+    C0, // VAZIO2
     // 0001
     CODE,
-    OPENS,
+    OPENS, // IND_DAD
     // 0005
     CODE,
-    C255,
-    N3,
-    N11,
-    N8,
-    C255,
-    C255,
-    C255,
-    C255,
-    N8,
-    N_ANY,
-    C255,
-    C255,
-    C255,
+    C255, // NOME_RESP
+    N3, // COD_ASSIN
+    N11, // CPF_RESP
+    N8, // CEP
+    C255, // END
+    C255, // NUM
+    C255, // COMPL
+    C255, // BAIRRO
+    N8, // CEP_CP
+    N_ANY, // CP
+    C255, // FONE
+    C255, // FAX
+    C255, // EMAIL
     // 0025
     CODE,
-    C5,
-    C5,
+    C5, // COD_BF_ICMS
+    C5, // COD_BF_ISS
     // 0030
     CODE,
-    N1,
-    N1,
-    N1,
-    N1,
-    N1,
-    N1,
-    N1,
-    N1,
-    N1,
-    N1,
-    N1,
-    N1,
-    N1,
-    N1,
-    N1,
-    N1,
-    N1,
+    N1, // IND_ED
+    N1, // IND_ARQ
+    N1, // PRF_ISS
+    N1, // PRF_ICMS
+    N1, // PRF_RIDF
+    N1, // PRF_RUDF
+    N1, // PRF_LMC
+    N1, // PRF_RV
+    N1, // PRF_RI
+    N1, // IND_EC
+    N1, // IND_ISS
+    N1, // IND_RT
+    N1, // IND_ICMS
+    N1, // IND_ST
+    N1, // IND_AT
+    N1, // IND_IPI
+    N1, // IND_RI
     // 0100
     CODE,
-    C255,
-    N3,
-    N14,
-    N11,
-    C10,
-    N8,
-    C255,
-    C255,
-    C255,
-    C255,
-    C2,
-    N7,
-    N8,
-    N_ANY,
-    C255,
-    C255,
-    C255,
+    C255, // NOME
+    N3, // COD_ASSIN
+    N14, // CNPJ
+    N11, // CPF
+    C10, // CRC
+    N8, // CEP
+    C255, // END
+    C255, // NUM
+    C255, // COMPL
+    C255, // BAIRRO
+    C2, // UF
+    N7, // COD_MUN
+    N8, // CEP_CP
+    N_ANY, // CP
+    C255, // FONE
+    C255, // FAX
+    C255, // EMAIL
     // 0150
     CODE,
-    C255,
-    C255,
-    N5,
-    N14,
-    N11,
-    C0,
-    C2,
-    C255,
-    C255,
-    N7,
-    C255,
-    C9,
+    C255, // COD_PART
+    C255, // NOME
+    N5, // COD_PAIS
+    N14, // CNPJ
+    N11, // CPF
+    C0, // VAZIO
+    C2, // UF
+    C255, // IE
+    C255, // IE_ST
+    N7, // COD_MUN
+    C255, // IM
+    C9, // SUFRAMA
     // 0175
     CODE,
-    N8,
-    C255,
-    C255,
-    C255,
-    C255,
-    N8,
-    N_ANY,
-    C255,
-    C255,
+    N8, // CEP
+    C255, // END
+    C255, // NUM
+    C255, // COMPL
+    C255, // BAIRRO
+    N8, // CEP_CP
+    N_ANY, // CP
+    C255, // FONE
+    C255, // FAX
     // 0200
     CODE,
-    C255,
-    C255,
-    N2,
-    N4,
+    C255, // COD_ITEM
+    C255, // DESCR_ITEM
+    N2, // COD_GEN
+    N4, // COD_LST
     // 0205
     CODE,
-    FREE,
-    FREE,
-    FREE,
-    FREE,
+    C255, // COD_ITEM_ANT
+    C255, // DESCR_ITEM_ANT
+    DATE, // DT_INI
+    DATE, // DT_FIN
     // 0210
     CODE,
-    FREE,
-    FREE,
-    FREE,
-    FREE,
-    FREE,
-    FREE,
-    FREE,
-    FREE,
+    C255, // COD_ITEM_COMP
+    C255, // UNID_ITEM
+    DECIMALS_6, // QTD_COMP
+    C255, // UNID_COMP
+    DATE, // DT_INI_COMP
+    DATE, // DT_FIN_COMP
+    N_ANY, // IND_ALT
+    DECIMALS_6, // TX_ALT
     // 0215
     CODE,
-    FREE,
-    FREE,
-    FREE,
+    C255, // COD_ITEM_ANP
+    DATE, // DT_INI
+    DATE, // DT_FIN
     // 0400
     CODE,
-    FREE,
-    FREE,
-    FREE,
+    C255, // COD_NAT
+    C255, // DESCR_NAT
+    C4, // COP
     // 0450
     CODE,
-    FREE,
-    FREE,
+    C255, // COD_INF_OBS
+    C65536, // TXT
     // 0455
     CODE,
-    FREE,
+    C255, // NORMA
     // 0460
     CODE,
-    FREE,
-    FREE,
-    FREE,
-    FREE,
-    FREE,
-    FREE,
-    FREE,
-    FREE,
-    FREE,
-    FREE,
-    FREE,
-    FREE,
-    FREE,
-    FREE,
-    FREE,
+    C255, // IND_DA
+    C255, // DESCR_DA
+    C2, // UF
+    N7, // COD_MUN
+    N6, // PER_REF
+    C255, // NUM_DA
+    DECIMALS_2, // VL_DA
+    DATE, // DT_VCTO
+    DECIMALS_2, // VL_DESC
+    DECIMALS_2, // VL_MOR
+    DECIMALS_2, // VL_JRS
+    DECIMALS_2, // VL_MUL
+    DECIMALS_2, // VL_PGTO
+    DATE, // DT_PGTO
+    C255, // AUT_BCO
     // 0465
     CODE,
-    FREE,
-    FREE,
-    FREE,
-    FREE,
-    FREE,
-    FREE,
-    FREE,
-    FREE,
-    FREE,
-    FREE,
-    FREE,
-    FREE,
-    FREE,
-    FREE,
-    FREE,
-    FREE,
-    FREE,
-    FREE,
-    FREE,
-    FREE,
-    FREE,
-    FREE,
-    FREE,
+    N1, // IND_OPER
+    N1, // IND_EMIT
+    N14, // CNPJ
+    N11, // CPF
+    C2, // UF
+    C255, // IE
+    N7, // COD_MUN
+    C255, // IM
+    C2, // COD_MOD
+    N2, // COD_SIT
+    C255, // SER
+    N_ANY, // SUB
+    C45, // CHV_NFE_CTE
+    N_ANY, // NUM_DOC
+    DATE, // DT_DOC
+    DECIMALS_2, // VL_DOC
+    DECIMALS_2, // VL_ISS
+    DECIMALS_2, // VL_RT
+    DECIMALS_2, // VL_ICMS
+    DECIMALS_2, // VL_ICMS_ST
+    DECIMALS_2, // VL_AT
+    DECIMALS_2, // VL_IPI
+    DECIMALS_2, // VOL
     // 0470
     CODE,
-    FREE,
-    FREE,
-    FREE,
-    FREE,
-    FREE,
-    FREE,
-    FREE,
-    FREE,
-    FREE,
-    FREE,
+    C2, // COD_MOD
+    N_ANY, // ECF_CX
+    C20, // ECF_FAB
+    N_ANY, // CRO
+    N_ANY, // CRZ
+    N_ANY, // NUM_DOC
+    DATE, // DT_DOC
+    DECIMALS_2, // VL_DOC
+    DECIMALS_2, // VL_ISS
+    DECIMALS_2, // VL_ICMS
     // 0990
     CODE,
-    COUNT,
+    COUNT, // QTD_LIN_0
     // C001
     CODE,
-    OPENS,
+    OPENS, // IND_DAD
     // C020
     CODE,
-    FREE,
-    FREE,
-    FREE,
-    FREE,
-    FREE,
-    FREE,
-    FREE,
-    FREE,
-    FREE,
-    FREE,
-    FREE,
-    FREE,
-    FREE,
-    FREE,
-    FREE,
-    FREE,
-    FREE,
-    FREE,
-    FREE,
-    FREE,
-    FREE,
-    FREE,
-    FREE,
-    FREE,
-    FREE,
-    FREE,
-    FREE,
+    N1, // IND_OPER
+    N1, // IND_EMIT
+    C255, // COD_PART
+    C2, // COD_MOD
+    N2, // COD_SIT
+    C255, // SER
+    N_ANY, // NUM_DOC
+    C45, // CHV_NFE
+    DATE, // DT_EMIS
+    DATE, // DT_DOC
+    C255, // COD_NAT
+    N1, // IND_PGTO
+    DECIMALS_2, // VL_DOC
+    DECIMALS_2, // VL_DESC
+    DECIMALS_2, // VL_ACMO
+    DECIMALS_2, // VL_MERC
+    DECIMALS_2, // VL_FRT
+    DECIMALS_2, // VL_SEG
+    DECIMALS_2, // VL_OUT_DA
+    DECIMALS_2, // VL_OP_ISS
+    DECIMALS_2, // VL_BC_ICMS
+    DECIMALS_2, // VL_ICMS
+    DECIMALS_2, // VL_BC_ST
+    DECIMALS_2, // VL_ICMS_ST
+    DECIMALS_2, // VL_AT
+    DECIMALS_2, // VL_IPI
+    C255, // COD_INF_OBS
     // C040
     CODE,
-    FREE,
-    FREE,
-    FREE,
-    FREE,
-    FREE,
+    N7, // COD_MUN_SERV
+    DECIMALS_2, // VL_BC_ISS
+    DECIMALS_2, // VL_ISS
+    DECIMALS_2, // VL_BC_RT_ISS
+    DECIMALS_2, // VL_RT_ISS
     // C300
     CODE,
-    FREE,
-    FREE,
-    FREE,
-    FREE,
-    FREE,
-    FREE,
-    FREE,
-    FREE,
-    FREE,
-    FREE,
-    FREE,
-    FREE,
-    FREE,
-    FREE,
-    FREE,
-    FREE,
-    FREE,
-    FREE,
-    FREE,
-    FREE,
+    N_ANY, // NUM_ITEM
+    C255, // COD_ITEM
+    C255, // UNID
+    DECIMALS_6, // VL_UNIT
+    DECIMALS_6, // QTD
+    DECIMALS_2, // VL_DESC_I
+    DECIMALS_2, // VL_ACMO_I
+    DECIMALS_2, // VL_ITEM
+    N8, // COD_NCM
+    N4, // CST
+    N4, // CFOP
+    DECIMALS_2, // VL_BC_ICMS_I
+    DECIMALS_2, // ALIQ_ICMS
+    DECIMALS_2, // VL_ICMS_I
+    DECIMALS_2, // VL_BC_ST_I
+    DECIMALS_2, // ALIQ_ST
+    DECIMALS_2, // VL_ICMS_ST_I
+    DECIMALS_2, // VL_BC_IPI
+    DECIMALS_2, // ALIQ_IPI
+    DECIMALS_2, // VL_IPI_I
     // C305
     CODE,
-    FREE,
+    C255, // in no sheet
     // C310
     CODE,
-    FREE,
-    FREE,
-    FREE,
+    N2, // CTISS
+    DECIMALS_2, // VL_BC_ISS_I
+    DECIMALS_2, // ALIQ_ISS
     // C550
     CODE,
-    FREE,
-    FREE,
-    FREE,
-    FREE,
-    FREE,
-    FREE,
-    FREE,
-    FREE,
-    FREE,
-    FREE,
-    FREE,
-    FREE,
-    FREE,
-    FREE,
-    FREE,
-    FREE,
+    N11, // CPF_CONS
+    N14, // CNPJ_CONS
+    C2, // COD_MOD
+    N2, // COD_SIT
+    C255, // SER
+    N_ANY, // SUB
+    N_ANY, // NUM_DOC
+    DATE, // DT_DOC
+    C4, // COP
+    DECIMALS_2, // VL_DOC
+    DECIMALS_2, // VL_DESC
+    DECIMALS_2, // VL_ACMO
+    DECIMALS_2, // VL_MERC
+    DECIMALS_2, // VL_BC_ICMS
+    DECIMALS_2, // VL_ICMS
+    C255, // COD_INF_OBS
     // C560
     CODE,
-    FREE,
-    FREE,
-    FREE,
-    FREE,
-    FREE,
-    FREE,
-    FREE,
-    FREE,
-    FREE,
-    FREE,
-    FREE,
-    FREE,
-    FREE,
+    N_ANY, // NUM_ITEM
+    C255, // COD_ITEM
+    C255, // UNID
+    DECIMALS_6, // VL_UNIT
+    DECIMALS_6, // QTD
+    DECIMALS_2, // VL_DESC_I
+    DECIMALS_2, // VL_ACMO_I
+    DECIMALS_2, // VL_ITEM
+    N4, // CST
+    N4, // CFOP
+    DECIMALS_2, // VL_BC_ICMS_I
+    DECIMALS_2, // ALIQ_ICMS
+    DECIMALS_2, // VL_ICMS_I
     // C600
     CODE,
-    FREE,
-    FREE,
-    FREE,
-    FREE,
-    FREE,
-    FREE,
-    FREE,
-    FREE,
-    FREE,
-    FREE,
-    FREE,
-    FREE,
-    FREE,
-    FREE,
-    FREE,
-    FREE,
-    FREE,
-    FREE,
-    FREE,
-    FREE,
-    FREE,
+    N11, // CPF_CONS
+    N14, // CNPJ_CONS
+    C2, // COD_MOD
+    N2, // COD_SIT
+    N_ANY, // ECF_CX
+    C20, // ECF_FAB
+    N_ANY, // CRO
+    N_ANY, // CRZ
+    N_ANY, // NUM_DOC
+    DATE, // DT_DOC
+    C4, // COP
+    DECIMALS_2, // VL_DOC
+    DECIMALS_2, // VL_CANC_ICMS
+    DECIMALS_2, // VL_DESC_ICMS
+    DECIMALS_2, // VL_ACMO_ICMS
+    DECIMALS_2, // VL_OP_ISS
+    DECIMALS_2, // VL_BC_ICMS
+    DECIMALS_2, // VL_ICMS
+    DECIMALS_2, // VL_ISN
+    DECIMALS_2, // VL_NT
+    DECIMALS_2, // VL_ST
     // C605
     CODE,
-    FREE,
-    FREE,
-    FREE,
-    FREE,
-    FREE,
-    FREE,
-    FREE,
+    DECIMALS_2, // VL_CANC_ISS
+    DECIMALS_2, // VL_DESC_ISS
+    DECIMALS_2, // VL_ACMO_ISS
+    DECIMALS_2, // VL_BC_ISS
+    DECIMALS_2, // VL_ISS
+    DECIMALS_2, // VL_ISN_ISS
+    DECIMALS_2, // VL_NT_ISS
     // C610
     CODE,
-    FREE,
-    FREE,
-    FREE,
-    FREE,
-    FREE,
-    FREE,
-    FREE,
-    FREE,
-    FREE,
-    FREE,
-    FREE,
-    FREE,
-    FREE,
-    FREE,
-    FREE,
-    FREE,
+    N_ANY, // NUM_ITEM
+    C255, // COD_ITEM
+    C255, // UNID
+    DECIMALS_6, // VL_UNIT
+    DECIMALS_6, // QTD
+    DECIMALS_2, // VL_DESC_I
+    DECIMALS_2, // VL_ACMO_I
+    DECIMALS_2, // VL_ITEM
+    N4, // CST
+    N4, // CFOP
+    DECIMALS_2, // VL_BC_ICMS_I
+    DECIMALS_2, // ALIQ_ICMS
+    DECIMALS_2, // VL_ICMS_I
+    DECIMALS_2, // VL_ISN_I
+    DECIMALS_2, // VL_NT_I
+    DECIMALS_2, // VL_ST_I
     // C615
     CODE,
-    FREE,
-    FREE,
-    FREE,
-    FREE,
-    FREE,
+    DECIMALS_2, // VL_BC_ISS_I
+    DECIMALS_2, // ALIQ_ISS
+    DECIMALS_2, // VL_ISS_I
+    DECIMALS_2, // VL_ISN_ISS_I
+    DECIMALS_2, // VL_NT_ISS_I
     // C990
     CODE,
-    COUNT,
+    COUNT, // QTD_LIN_C
     // E001
     CODE,
-    OPENS,
+    OPENS, // IND_DAD
     // E003
     CODE,
-    FREE,
-    FREE,
-    FREE,
-    FREE,
+    C2, // UF
+    C4, // LIN_NOM
+    N_ANY, // CAMPO_INI
+    N_ANY, // QTD_CAMPO
     // E020
     CODE,
-    FREE,
-    FREE,
-    FREE,
-    FREE,
-    FREE,
-    FREE,
-    FREE,
-    FREE,
-    FREE,
-    FREE,
-    FREE,
-    FREE,
-    FREE,
-    FREE,
-    FREE,
-    FREE,
-    FREE,
-    FREE,
-    FREE,
-    FREE,
-    FREE,
-    FREE,
-    FREE,
-    FREE,
-    FREE,
-    FREE,
-    FREE,
-    FREE,
-    FREE,
+    N1, // IND_OPER
+    N1, // IND_EMIT
+    C255, // COD_PART
+    C2, // COD_MOD
+    N2, // COD_SIT
+    C255, // SER
+    N_ANY, // NUM_DOC
+    C45, // CHV_NFE
+    DATE, // DT_EMIS
+    DATE, // DT_DOC
+    C255, // COD_NAT
+    C4, // COP
+    C255, // NUM_LCTO
+    N1, // IND_PGTO
+    DECIMALS_2, // VL_CONT
+    DECIMALS_2, // VL_OP_ISS
+    DECIMALS_2, // VL_BC_ICMS
+    DECIMALS_2, // VL_ICMS
+    DECIMALS_2, // VL_ICMS_ST
+    DECIMALS_2, // VL_ST_E
+    DECIMALS_2, // VL_ST_S
+    DECIMALS_2, // VL_AT
+    DECIMALS_2, // VL_ISNT_ICMS
+    DECIMALS_2, // VL_OUT_ICMS
+    DECIMALS_2, // VL_BC_IPI
+    DECIMALS_2, // VL_IPI
+    DECIMALS_2, // VL_ISNT_IPI
+    DECIMALS_2, // VL_OUT_IPI
+    C255, // COD_INF_OBS
     // E025
     CODE,
-    FREE,
-    FREE,
-    FREE,
-    FREE,
-    FREE,
-    FREE,
-    FREE,
-    FREE,
-    FREE,
-    FREE,
-    FREE,
-    FREE,
-    FREE,
-    FREE,
-    FREE,
-    FREE,
+    DECIMALS_2, // VL_CONT_P
+    DECIMALS_2, // VL_OP_ISS_P
+    N4, // CFOP
+    DECIMALS_2, // VL_BC_ICMS_P
+    DECIMALS_2, // ALIQ_ICMS
+    DECIMALS_2, // VL_ICMS_P
+    DECIMALS_2, // VL_BC_ST_P
+    DECIMALS_2, // VL_ICMS_ST_P
+    DECIMALS_2, // VL_ISNT_ICMS_P
+    DECIMALS_2, // VL_OUT_ICMS_P
+    DECIMALS_2, // VL_BC_IPI_P
+    DECIMALS_2, // VL_IPI_P
+    DECIMALS_2, // VL_ISNT_IPI_P
+    DECIMALS_2, // VL_OUT_IPI_P
+    N1, // IND_PETR
+    N1, // IND_IMUN
     // E050
     CODE,
-    FREE,
-    FREE,
-    FREE,
-    FREE,
-    FREE,
-    FREE,
-    FREE,
-    FREE,
-    FREE,
-    FREE,
-    FREE,
-    FREE,
-    FREE,
-    FREE,
-    FREE,
+    C2, // COD_MOD
+    N_ANY, // QTD_CANC
+    C255, // SER
+    N_ANY, // SUB
+    N_ANY, // NUM_DOC_INI
+    N_ANY, // NUM_DOC_FIN
+    DATE, // DT_DOC
+    C4, // COP
+    C255, // NUM_LCTO
+    DECIMALS_2, // VL_CONT
+    DECIMALS_2, // VL_BC_ICMS
+    DECIMALS_2, // VL_ICMS
+    DECIMALS_2, // VL_ISNT_ICMS
+    DECIMALS_2, // VL_OUT_ICMS
+    C255, // COD_INF_OBS
     // E055
     CODE,
-    FREE,
-    FREE,
-    FREE,
-    FREE,
-    FREE,
-    FREE,
-    FREE,
-    FREE,
+    DECIMALS_2, // VL_CONT_P
+    N4, // CFOP
+    DECIMALS_2, // VL_BC_ICMS_P
+    DECIMALS_2, // ALIQ_ICMS
+    DECIMALS_2, // VL_ICMS_P
+    DECIMALS_2, // VL_ISNT_ICMS_P
+    DECIMALS_2, // VL_OUT_ICMS_P
+    N1, // IND_IMUN
     // E060
     CODE,
-    FREE,
-    FREE,
-    FREE,
-    FREE,
-    FREE,
-    FREE,
-    FREE,
-    FREE,
-    FREE,
-    FREE,
-    FREE,
-    FREE,
-    FREE,
-    FREE,
-    FREE,
-    FREE,
-    FREE,
-    FREE,
-    FREE,
-    FREE,
-    FREE,
-    FREE,
+    C2, // COD_MOD
+    N_ANY, // ECF_CX
+    C20, // ECF_FAB
+    N_ANY, // CRO
+    N_ANY, // CRZ
+    DATE, // DT_DOC
+    N_ANY, // NUM_DOC_INI
+    N_ANY, // NUM_DOC_FIN
+    DECIMALS_2, // GT_INI
+    DECIMALS_2, // GT_FIN
+    DECIMALS_2, // VL_BRT
+    DECIMALS_2, // VL_CANCEL_ICMS
+    DECIMALS_2, // VL_DESC_ICMS
+    DECIMALS_2, // VL_ACMO_ICMS
+    DECIMALS_2, // VL_OP_ISS
+    DECIMALS_2, // VL_LIQ
+    DECIMALS_2, // VL_BC_ICMS
+    DECIMALS_2, // VL_ICMS
+    DECIMALS_2, // VL_ISN
+    DECIMALS_2, // VL_NT
+    DECIMALS_2, // VL_ST
+    C255, // COD_INF_OBS
     // E065
     CODE,
-    FREE,
-    FREE,
-    FREE,
-    FREE,
-    FREE,
+    N4, // CFOP
+    DECIMALS_2, // VL_BC_ICMS_P
+    DECIMALS_2, // ALIQ_ICMS
+    DECIMALS_2, // VL_ICMS_P
+    N1, // IND_IMUN
     // E080
     CODE,
-    FREE,
-    FREE,
-    FREE,
-    FREE,
-    FREE,
-    FREE,
-    FREE,
-    FREE,
-    FREE,
-    FREE,
-    FREE,
-    FREE,
-    FREE,
-    FREE,
-    FREE,
-    FREE,
-    FREE,
+    N1, // IND_TOT
+    C2, // COD_MOD
+    N_ANY, // NUM_MR
+    DATE, // DT_DOC
+    DECIMALS_2, // VL_BRT
+    DECIMALS_2, // VL_CANC_ICMS
+    DECIMALS_2, // VL_DESC_ICMS
+    DECIMALS_2, // VL_ACMO_ICMS
+    DECIMALS_2, // VL_OP_ISS
+    C4, // COP
+    C255, // NUM_LCTO
+    DECIMALS_2, // VL_CONT
+    DECIMALS_2, // VL_BC_ICMS
+    DECIMALS_2, // VL_ICMS
+    DECIMALS_2, // VL_ISNT_ICMS
+    DECIMALS_2, // VL_ST
+    N1, // IND_OBS
     // E085
     CODE,
-    FREE,
-    FREE,
-    FREE,
-    FREE,
-    FREE,
-    FREE,
-    FREE,
-    FREE,
-    FREE,
+    DECIMALS_2, // VL_CONT_P
+    DECIMALS_2, // VL_OP_ISS_P
+    N4, // CFOP
+    DECIMALS_2, // VL_BC_ICMS_P
+    DECIMALS_2, // ALIQ_ICMS
+    DECIMALS_2, // VL_ICMS_P
+    DECIMALS_2, // VL_ISNT_ICMS_P
+    DECIMALS_2, // VL_ST_P
+    N1, // IND_IMUN
     // E100
     CODE,
-    FREE,
-    FREE,
-    FREE,
-    FREE,
-    FREE,
-    FREE,
-    FREE,
-    FREE,
-    FREE,
-    FREE,
-    FREE,
-    FREE,
-    FREE,
-    FREE,
-    FREE,
-    FREE,
-    FREE,
-    FREE,
-    FREE,
-    FREE,
-    FREE,
-    FREE,
-    FREE,
-    FREE,
+    N1, // IND_OPER
+    N1, // IND_EMIT
+    C255, // COD_PART
+    N7, // COD_MUN_SERV
+    C2, // COD_MOD
+    N2, // COD_SIT
+    N_ANY, // QTD_CANC
+    C255, // SER
+    N_ANY, // SUB
+    N2, // COD_CONS
+    N_ANY, // NUM_DOC
+    N_ANY, // QTD_DOC
+    DATE, // DT_EMIS
+    DATE, // DT_DOC
+    C4, // COP
+    C255, // NUM_LCTO
+    DECIMALS_2, // VL_CONT
+    DECIMALS_2, // VL_OP_ISS
+    DECIMALS_2, // VL_BC_ICMS
+    DECIMALS_2, // VL_ICMS
+    DECIMALS_2, // VL_ICMS_ST
+    DECIMALS_2, // VL_ISNT_ICMS
+    DECIMALS_2, // VL_OUT_ICMS
+    C255, // COD_INF_OBS
     // E105
     CODE,
-    FREE,
-    FREE,
-    FREE,
-    FREE,
-    FREE,
-    FREE,
-    FREE,
-    FREE,
-    FREE,
-    FREE,
+    DECIMALS_2, // VL_CONT_P
+    DECIMALS_2, // VL_OP_ISS_P
+    N4, // CFOP
+    DECIMALS_2, // VL_BC_ICMS_P
+    DECIMALS_2, // ALIQ_ICMS
+    DECIMALS_2, // VL_ICMS_P
+    DECIMALS_2, // VL_ICMS_ST_P
+    DECIMALS_2, // VL_ISNT_ICMS_P
+    DECIMALS_2, // VL_OUT_ICMS_P
+    N1, // IND_PETR
     // E120
     CODE,
-    FREE,
-    FREE,
-    FREE,
-    FREE,
-    FREE,
-    FREE,
-    FREE,
-    FREE,
-    FREE,
-    FREE,
-    FREE,
-    FREE,
-    FREE,
-    FREE,
-    FREE,
-    FREE,
-    FREE,
-    FREE,
-    FREE,
-    FREE,
-    FREE,
-    FREE,
-    FREE,
-    FREE,
+    N1, // IND_OPER
+    N1, // IND_EMIT
+    C255, // COD_PART
+    N7, // COD_MUN_SERV
+    C2, // COD_MOD
+    N2, // COD_SIT
+    C255, // SER
+    N_ANY, // SUB
+    N_ANY, // NUM_DOC
+    C45, // CHV_CTE
+    DATE, // DT_EMIS
+    DATE, // DT_DOC
+    C4, // COP
+    C255, // NUM_LCTO
+    N1, // IND_PGTO
+    DECIMALS_2, // VL_CONT
+    N4, // CFOP
+    DECIMALS_2, // VL_BC_ICMS
+    DECIMALS_2, // ALIQ_ICMS
+    DECIMALS_2, // VL_ICMS
+    DECIMALS_2, // VL_ICMS_ST
+    DECIMALS_2, // VL_ISNT_ICMS
+    DECIMALS_2, // VL_OUT_ICMS
+    C255, // COD_INF_OBS
     // E140
     CODE,
-    FREE,
-    FREE,
-    FREE,
-    FREE,
-    FREE,
-    FREE,
-    FREE,
-    FREE,
-    FREE,
-    FREE,
-    FREE,
-    FREE,
-    FREE,
-    FREE,
-    FREE,
-    FREE,
-    FREE,
-    FREE,
+    N7, // COD_MUN_SERV
+    C2, // COD_MOD
+    N_ANY, // QTD_CANC
+    C255, // SER
+    N_ANY, // SUB
+    N_ANY, // NUM_DOC_INI
+    N_ANY, // NUM_DOC_FIN
+    DATE, // DT_DOC
+    C4, // COP
+    C255, // NUM_LCTO
+    DECIMALS_2, // VL_CONT
+    N4, // CFOP
+    DECIMALS_2, // VL_BC_ICMS
+    DECIMALS_2, // ALIQ_ICMS
+    DECIMALS_2, // VL_ICMS
+    DECIMALS_2, // VL_ISNT_ICMS
+    DECIMALS_2, // VL_OUT_ICMS
+    C255, // COD_INF_OBS
     // E300
     CODE,
-    FREE,
-    FREE,
+    DATE, // DT_INI
+    DATE, // DT_FIN
     // E305
     CODE,
-    FREE,
-    FREE,
-    FREE,
-    FREE,
-    FREE,
-    FREE,
-    FREE,
-    FREE,
-    FREE,
-    FREE,
-    FREE,
-    FREE,
-    FREE,
-    FREE,
-    FREE,
-    FREE,
-    FREE,
-    FREE,
-    FREE,
-    FREE,
-    FREE,
-    FREE,
+    N1, // IND_MRO
+    N1, // IND_OPER
+    DATE, // DT_DOC
+    C4, // COP
+    C255, // NUM_LCTO
+    N_ANY, // QTD_LCTO
+    DECIMALS_2, // VL_CONT
+    DECIMALS_2, // VL_OP_ISS
+    DECIMALS_2, // VL_BC_ICMS
+    DECIMALS_2, // VL_ICMS
+    DECIMALS_2, // VL_ICMS_ST
+    DECIMALS_2, // VL_ST_ENT
+    DECIMALS_2, // VL_ST_FNT
+    DECIMALS_2, // VL_ST_UF
+    DECIMALS_2, // VL_ST_OE
+    DECIMALS_2, // VL_AT
+    DECIMALS_2, // VL_ISNT_ICMS
+    DECIMALS_2, // VL_OUT_ICMS
+    DECIMALS_2, // VL_BC_IPI
+    DECIMALS_2, // VL_IPI
+    DECIMALS_2, // VL_ISNT_IPI
+    DECIMALS_2, // VL_OUT_IPI
     // E310
     CODE,
-    FREE,
-    FREE,
-    FREE,
-    FREE,
-    FREE,
-    FREE,
-    FREE,
-    FREE,
-    FREE,
+    DECIMALS_2, // VL_CONT
+    DECIMALS_2, // VL_OP_ISS
+    N4, // CFOP
+    DECIMALS_2, // VL_BC_ICMS
+    DECIMALS_2, // VL_ICMS
+    DECIMALS_2, // VL_ICMS_ST
+    DECIMALS_2, // VL_ISNT_ICMS
+    DECIMALS_2, // VL_OUT_ICMS
+    N1, // IND_IMUN
     // E330
     CODE,
-    FREE,
-    FREE,
-    FREE,
-    FREE,
-    FREE,
-    FREE,
-    FREE,
-    FREE,
-    FREE,
-    FREE,
-    FREE,
-    FREE,
-    FREE,
+    N1, // IND_TOT
+    DECIMALS_2, // VL_CONT
+    DECIMALS_2, // VL_OP_ISS
+    DECIMALS_2, // VL_BC_ICMS
+    DECIMALS_2, // VL_ICMS
+    DECIMALS_2, // VL_ICMS_ST
+    DECIMALS_2, // VL_ST_ENT
+    DECIMALS_2, // VL_ST_FNT
+    DECIMALS_2, // VL_ST_UF
+    DECIMALS_2, // VL_ST_OE
+    DECIMALS_2, // VL_AT
+    DECIMALS_2, // VL_ISNT_ICMS
+    DECIMALS_2, // VL_OUT_ICMS
     // E340
     CODE,
-    FREE,
-    FREE,
-    FREE,
-    FREE,
-    FREE,
-    FREE,
-    FREE,
-    FREE,
-    FREE,
-    FREE,
-    FREE,
-    FREE,
-    FREE,
-    FREE,
-    FREE,
-    FREE,
-    FREE,
-    FREE,
-    FREE,
-    FREE,
-    FREE,
-    FREE,
-    FREE,
+    DECIMALS_2, // VL_01
+    DECIMALS_2, // VL_02
+    DECIMALS_2, // VL_03
+    DECIMALS_2, // VL_04
+    DECIMALS_2, // VL_05
+    DECIMALS_2, // VL_06
+    DECIMALS_2, // VL_07
+    DECIMALS_2, // VL_08
+    DECIMALS_2, // VL_09
+    DECIMALS_2, // VL_10
+    DECIMALS_2, // VL_11
+    DECIMALS_2, // VL_12
+    DECIMALS_2, // VL_13
+    DECIMALS_2, // VL_14
+    DECIMALS_2, // VL_15
+    DECIMALS_2, // VL_16
+    DECIMALS_2, // VL_17
+    DECIMALS_2, // VL_18
+    DECIMALS_2, // VL_19
+    DECIMALS_2, // VL_20
+    DECIMALS_2, // VL_21
+    DECIMALS_2, // VL_22
+    DECIMALS_2, // VL_99
     // E350
     CODE,
-    FREE,
-    FREE,
-    FREE,
-    FREE,
-    FREE,
-    FREE,
-    FREE,
-    FREE,
-    FREE,
+    C2, // UF_AJ
+    N3, // COD_AJ
+    DECIMALS_2, // VL_AJ
+    C255, // NUM_DA
+    C255, // NUM_PROC
+    N1, // IND_PROC
+    C255, // DESCR_PROC
+    C255, // COD_INF_OBS
+    N_ANY, // IND_AP
     // E360
     CODE,
-    FREE,
-    FREE,
-    FREE,
-    FREE,
-    FREE,
-    FREE,
-    FREE,
-    FREE,
-    FREE,
-    FREE,
+    C2, // UF_OR
+    N3, // COD_OR
+    N6, // PER_REF
+    C255, // COD_REC
+    DECIMALS_2, // VL_ICMS_REC
+    DATE, // DT_VCTO
+    C255, // NUM_PROC
+    N1, // IND_PROC
+    C255, // DESCR_PROC
+    C255, // COD_INF_OBS
     // E500
     CODE,
-    FREE,
-    FREE,
-    FREE,
+    DATE, // DT_INI
+    DATE, // DT_FIN
+    C255, // in no sheet
     // E520
     CODE,
-    FREE,
-    FREE,
-    FREE,
-    FREE,
-    FREE,
-    FREE,
+    DECIMALS_2, // VL_CONT
+    N4, // CFOP
+    DECIMALS_2, // VL_BC_IPI
+    DECIMALS_2, // VL_IPI
+    DECIMALS_2, // VL_ISNT_IPI
+    DECIMALS_2, // VL_OUT_IPI
     // E525
     CODE,
-    FREE,
-    FREE,
-    FREE,
-    FREE,
-    FREE,
-    FREE,
+    N1, // IND_TOT
+    DECIMALS_2, // VL_CONT
+    DECIMALS_2, // VL_BC_IPI
+    DECIMALS_2, // VL_IPI
+    DECIMALS_2, // VL_ISNT_IPI
+    DECIMALS_2, // VL_OUT_IPI
     // E540
     CODE,
-    FREE,
-    FREE,
-    FREE,
-    FREE,
-    FREE,
-    FREE,
-    FREE,
-    FREE,
-    FREE,
-    FREE,
-    FREE,
-    FREE,
-    FREE,
-    FREE,
-    FREE,
+    DECIMALS_2, // VL_001
+    DECIMALS_2, // VL_002
+    DECIMALS_2, // VL_003
+    DECIMALS_2, // VL_004
+    DECIMALS_2, // VL_005
+    DECIMALS_2, // VL_006
+    DECIMALS_2, // VL_007
+    DECIMALS_2, // VL_009
+    DECIMALS_2, // VL_010
+    DECIMALS_2, // VL_011
+    DECIMALS_2, // VL_012
+    DECIMALS_2, // VL_013
+    DECIMALS_2, // VL_008
+    DECIMALS_2, // VL_016
+    DECIMALS_2, // VL_017
     // E550
     CODE,
-    FREE,
-    FREE,
-    FREE,
-    FREE,
-    FREE,
-    FREE,
+    N3, // COD_AJ
+    DECIMALS_2, // VL_AJ
+    C1, // IND_DOC
+    C255, // NUM_DOC
+    C255, // DESCR_AJ
+    C255, // COD_INF_OBS
     // E560
     CODE,
-    FREE,
-    FREE,
-    FREE,
-    FREE,
-    FREE,
-    FREE,
-    FREE,
-    FREE,
-    FREE,
+    C4, // COD_OR_IPI
+    N6, // PER_REF
+    N4, // COD_REC_IPI
+    DECIMALS_2, // VL_IPI_REC
+    DATE, // DT_VCTO
+    N1, // IND_DOC
+    C255, // NUM_DOC
+    C255, // DESCR_AJ
+    C255, // COD_INF_OBS
     // E990
     CODE,
-    COUNT,
+    COUNT, // QTD_LIN_E
     // F001
     CODE,
-    OPENS,
+    OPENS, // IND_DAD
     // F020
     CODE,
-    FREE,
-    FREE,
-    FREE,
-    FREE,
-    FREE,
+    N1, // IND_RIDF
+    DATE, // DT_INI
+    DATE, // DT_FIN
+    C255, // CRED
+    C255, // UF_GR
     // F025
     CODE,
-    FREE,
-    FREE,
-    FREE,
-    FREE,
-    FREE,
+    C2, // UF_SF
+    N7, // COD_MUN
+    N_ANY, // NUM_AUT
+    DATE, // DT_AUT
+    C255, // COD_PART
     // F030
     CODE,
-    FREE,
-    FREE,
-    FREE,
-    FREE,
-    FREE,
+    N2, // IND_DOC
+    C2, // COD_MOD
+    C255, // SER
+    N_ANY, // SUB
+    N_ANY, // QTD_AUT
     // F035
     CODE,
-    FREE,
-    FREE,
-    FREE,
-    FREE,
-    FREE,
-    FREE,
-    FREE,
-    FREE,
-    FREE,
+    C2, // COD_MOD
+    C255, // SER
+    N_ANY, // SUB
+    DATE, // DT_LIB
+    N_ANY, // NUM_DOC
+    N_ANY, // NUM_DOC_INI
+    N_ANY, // NUM_DOC_FIN
+    N_ANY, // QTD_DEV
+    C255, // COD_INF_OBS
     // F200
     CODE,
-    FREE,
-    FREE,
-    FREE,
+    N1, // IND_LMC
+    DATE, // DT_INI
+    DATE, // DT_FIN
     // F205
     CODE,
-    FREE,
-    FREE,
-    FREE,
-    FREE,
-    FREE,
+    C255, // BOMBA
+    C255, // EQP_FAB
+    N14, // EQP_CNPJ
+    C255, // EQP_MOD
+    N1, // IND_BOMB
     // F210
     CODE,
-    FREE,
-    FREE,
+    C255, // COD_ITEM
+    C255, // COD_INF_OBS
     // F215
     CODE,
-    FREE,
-    FREE,
-    FREE,
-    FREE,
-    FREE,
-    FREE,
-    FREE,
-    FREE,
-    FREE,
-    FREE,
-    FREE,
+    N1, // IND_TOT
+    DATE, // DT_MOV
+    DECIMALS_3, // ESTQ_INI
+    DECIMALS_3, // ENTRADAS
+    DECIMALS_3, // SAIDAS
+    DECIMALS_3, // ESTQ_FIN
+    DECIMALS_3, // ESTQ_FECH
+    DECIMALS_3, // PERDAS
+    DECIMALS_3, // SOBRAS
+    DECIMALS_3, // VL_UNIT
+    DECIMALS_2, // VL_SAID
     // F220
     CODE,
-    FREE,
-    FREE,
-    FREE,
-    FREE,
-    FREE,
-    FREE,
-    FREE,
+    C255, // TANQUE
+    DECIMALS_3, // VOL_INI
+    DECIMALS_3, // VOL_ENTR
+    DECIMALS_3, // VOL_SAID
+    DECIMALS_3, // VOL_FECH
+    DECIMALS_3, // VOL_PRD
+    DECIMALS_3, // VOL_SBR
     // F225
     CODE,
-    FREE,
-    FREE,
-    FREE,
-    FREE,
-    FREE,
-    FREE,
-    FREE,
-    FREE,
-    FREE,
-    FREE,
-    FREE,
-    FREE,
-    FREE,
-    FREE,
+    N1, // IND_OPER
+    N1, // IND_EMIT
+    N14, // CNPJ
+    C2, // UF
+    C255, // IE
+    C2, // COD_MOD
+    C255, // SER
+    N_ANY, // NUM_DOC
+    DATE, // DT_DOC
+    DECIMALS_2, // VL_DOC
+    DECIMALS_2, // VL_ICMS
+    DECIMALS_2, // VL_ICMS_ST
+    DECIMALS_3, // VOL
+    C255, // COD_INF_OBS
     // F230
     CODE,
-    FREE,
-    FREE,
-    FREE,
-    FREE,
-    FREE,
+    C255, // BOMBA
+    C255, // BICO
+    N_ANY, // ENC_FIN
+    N_ANY, // ENC_INI
+    DECIMALS_2, // VOL_AFER
     // F250
     CODE,
-    FREE,
-    FREE,
-    FREE,
+    N1, // IND_RV
+    DATE, // DT_INI
+    DATE, // DT_FIN
     // F255
     CODE,
-    FREE,
-    FREE,
-    FREE,
-    FREE,
-    FREE,
-    FREE,
-    FREE,
-    FREE,
-    FREE,
-    FREE,
-    FREE,
-    FREE,
-    FREE,
-    FREE,
-    FREE,
-    FREE,
-    FREE,
-    FREE,
+    DATE, // DT_ENTR
+    N1, // IND_PROP
+    C255, // COD_PART_ENT
+    C2, // UF
+    N7, // COD_MUN
+    C255, // ID_VEIC
+    C255, // MARCA
+    C255, // MODELO
+    N4, // ANO
+    C255, // DESCR
+    C255, // CHASSI
+    C255, // MOTOR
+    DECIMALS_2, // VL_VEIC
+    N1, // IND_NEG
+    DATE, // DT_SAID
+    C255, // COD_PART_SAI
+    DECIMALS_2, // VL_OPER
+    C255, // COD_INF_OBS
     // F990
     CODE,
-    COUNT,
+    COUNT, // QTD_LIN_F
     // G001
     CODE,
-    OPENS,
+    OPENS, // IND_DAD
     // G020
     CODE,
-    FREE,
-    FREE,
-    FREE,
+    N1, // IND_GEF
+    DATE, // DT_INI
+    DATE, // DT_FIN
     // G025
     CODE,
-    FREE,
-    FREE,
-    FREE,
-    FREE,
-    FREE,
-    FREE,
-    FREE,
-    FREE,
-    FREE,
-    FREE,
-    FREE,
-    FREE,
-    FREE,
-    FREE,
-    FREE,
-    FREE,
+    N1, // IND_OPER
+    N1, // IND_EMIT
+    C2, // COD_MOD
+    C255, // SER
+    N_ANY, // SUB
+    N_ANY, // NUM_DOC_INI
+    N_ANY, // NUM_DOC_FIN
+    N_ANY, // QTD_DOC
+    N_ANY, // QTD_CANC
+    DECIMALS_2, // VL_CONT
+    DECIMALS_2, // VL_ISS
+    DECIMALS_2, // VL_RT_ISS
+    DECIMALS_2, // VL_ICMS
+    DECIMALS_2, // VL_ICMS_ST
+    DECIMALS_2, // VL_AT
+    DECIMALS_2, // VL_IPI
     // G030
     CODE,
-    FREE,
-    FREE,
-    FREE,
-    FREE,
-    FREE,
-    FREE,
-    FREE,
-    FREE,
-    FREE,
-    FREE,
+    C2, // COD_MOD
+    N_ANY, // ECF_CX
+    N_ANY, // CRO
+    N_ANY, // NUM_DOC_INI
+    N_ANY, // NUM_DOC_FIN
+    N_ANY, // QTD_DOC
+    DECIMALS_2, // VL_CONT
+    DECIMALS_2, // VL_ISS
+    DECIMALS_2, // VL_ICMS
+    DECIMALS_2, // VL_ST
     // G050
     CODE,
-    FREE,
-    FREE,
-    FREE,
-    FREE,
-    FREE,
-    FREE,
-    FREE,
-    FREE,
-    FREE,
-    FREE,
-    FREE,
-    FREE,
-    FREE,
-    FREE,
-    FREE,
-    FREE,
-    FREE,
-    FREE,
+    N1, // IND_MRO
+    N1, // IND_OPER
+    DATE, // DT_DOC
+    C4, // COP
+    N_ANY, // QTD_LCTO
+    DECIMALS_2, // VL_CONT
+    DECIMALS_2, // VL_CONT_PRP
+    DECIMALS_2, // VL_CONT_OUT
+    DECIMALS_2, // VL_ISS
+    DECIMALS_2, // VL_RT_ISS
+    DECIMALS_2, // VL_ICMS
+    DECIMALS_2, // VL_ICMS_ST
+    DECIMALS_2, // VL_ST_ENT
+    DECIMALS_2, // VL_ST_FNT
+    DECIMALS_2, // VL_ST_UF
+    DECIMALS_2, // VL_ST_OE
+    DECIMALS_2, // VL_AT
+    DECIMALS_2, // VL_IPI
     // G400
     CODE,
-    FREE,
-    FREE,
-    FREE,
-    FREE,
-    FREE,
-    FREE,
-    FREE,
-    FREE,
-    FREE,
+    DECIMALS_2, // VL_CONT
+    DECIMALS_2, // VL_OP_ISS
+    N4, // CFOP
+    DECIMALS_2, // VL_BC_ICMS
+    DECIMALS_2, // VL_ICMS
+    DECIMALS_2, // VL_BC_ST
+    DECIMALS_2, // VL_ICMS_ST
+    DECIMALS_2, // VL_ISNT_ICMS
+    DECIMALS_2, // VL_OUT_ICMS
     // G410
     CODE,
-    FREE,
-    FREE,
-    FREE,
-    FREE,
-    FREE,
-    FREE,
-    FREE,
-    FREE,
-    FREE,
-    FREE,
-    FREE,
-    FREE,
-    FREE,
+    N1, // IND_TOT
+    DECIMALS_2, // VL_CONT
+    DECIMALS_2, // VL_OP_ISS
+    DECIMALS_2, // VL_BC_ICMS
+    DECIMALS_2, // VL_ICMS
+    DECIMALS_2, // VL_ICMS_ST
+    DECIMALS_2, // VL_ST_ENT
+    DECIMALS_2, // VL_ST_FNT
+    DECIMALS_2, // VL_ST_UF
+    DECIMALS_2, // VL_ST_OE
+    DECIMALS_2, // VL_AT
+    DECIMALS_2, // VL_ISNT_ICMS
+    DECIMALS_2, // VL_OUT_ICMS
     // G420
     CODE,
-    FREE,
-    FREE,
-    FREE,
-    FREE,
-    FREE,
-    FREE,
-    FREE,
-    FREE,
-    FREE,
-    FREE,
-    FREE,
-    FREE,
-    FREE,
-    FREE,
-    FREE,
-    FREE,
-    FREE,
-    FREE,
-    FREE,
-    FREE,
-    FREE,
-    FREE,
-    FREE,
+    DECIMALS_2, // VL_01
+    DECIMALS_2, // VL_02
+    DECIMALS_2, // VL_03
+    DECIMALS_2, // VL_04
+    DECIMALS_2, // VL_05
+    DECIMALS_2, // VL_06
+    DECIMALS_2, // VL_07
+    DECIMALS_2, // VL_08
+    DECIMALS_2, // VL_09
+    DECIMALS_2, // VL_10
+    DECIMALS_2, // VL_11
+    DECIMALS_2, // VL_12
+    DECIMALS_2, // VL_13
+    DECIMALS_2, // VL_14
+    DECIMALS_2, // VL_15
+    DECIMALS_2, // VL_16
+    DECIMALS_2, // VL_17
+    DECIMALS_2, // VL_18
+    DECIMALS_2, // VL_19
+    DECIMALS_2, // VL_20
+    DECIMALS_2, // VL_21
+    DECIMALS_2, // VL_22
+    DECIMALS_2, // VL_99
     // G430
     CODE,
-    FREE,
-    FREE,
+    N3, // COD_AJ
+    DECIMALS_2, // VL_AJ
     // G440
     CODE,
-    FREE,
-    FREE,
-    FREE,
-    FREE,
-    FREE,
-    FREE,
+    C2, // UF_OR
+    N3, // COD_OR
+    N6, // PER_REF
+    C255, // COD_REC
+    DECIMALS_2, // VL_ICMS_REC
+    DATE, // DT_VCTO
     // G450
     CODE,
-    FREE,
-    FREE,
-    FREE,
-    FREE,
-    FREE,
-    FREE,
-    FREE,
-    FREE,
-    FREE,
-    FREE,
-    FREE,
-    FREE,
-    FREE,
-    FREE,
+    N1, // IND_OPER
+    DECIMALS_2, // VL_CONT_NC
+    DECIMALS_2, // VL_CONT_C
+    DECIMALS_2, // VL_OP_ISS
+    DECIMALS_2, // VL_BC_ICMS_NC
+    DECIMALS_2, // VL_BC_ICMS_C
+    DECIMALS_2, // VL_ICMS
+    DECIMALS_2, // VL_ICMS_ST
+    DECIMALS_2, // VL_ICMS_PETR
+    DECIMALS_2, // VL_ICMS_EEL
+    DECIMALS_2, // VL_ICMS_ST_OUT
+    DECIMALS_2, // VL_AT
+    DECIMALS_2, // VL_ISNT_ICMS
+    DECIMALS_2, // VL_OUT_ICMS
     // G460
     CODE,
-    FREE,
-    FREE,
-    FREE,
-    FREE,
-    FREE,
-    FREE,
-    FREE,
-    FREE,
-    FREE,
-    FREE,
-    FREE,
-    FREE,
-    FREE,
-    FREE,
+    C2, // UF
+    DECIMALS_2, // VL_CONT_NC_UF
+    DECIMALS_2, // VL_CONT_C_UF
+    DECIMALS_2, // VL_OP_ISS_UF
+    DECIMALS_2, // VL_BC_ICMS_NC_UF
+    DECIMALS_2, // VL_BC_ICMS_C_UF
+    DECIMALS_2, // VL_ICMS_UF
+    DECIMALS_2, // VL_ICMS_ST_UF
+    DECIMALS_2, // VL_ICMS_PETR_UF
+    DECIMALS_2, // VL_ICMS_EEL_UF
+    DECIMALS_2, // VL_ICMS_ST_OUT_UF
+    DECIMALS_2, // VL_AT_UF
+    DECIMALS_2, // VL_ISNT_ICMS_UF
+    DECIMALS_2, // VL_OUT_ICMS_UF
     // G990
     CODE,
-    COUNT,
+    COUNT, // QTD_LIN_G
     // H001
     CODE,
-    OPENS,
+    OPENS, // IND_DAD
     // H020
     CODE,
-    FREE,
-    FREE,
-    FREE,
-    FREE,
-    FREE,
-    FREE,
-    FREE,
-    FREE,
-    FREE,
-    FREE,
-    FREE,
+    N1, // IND_DT
+    DATE, // DT_INV
+    DECIMALS_2, // VL_ESTQ
+    DECIMALS_2, // VL_ICMS_REC
+    DECIMALS_2, // VL_IPI_REC
+    DECIMALS_2, // VL_PIS_REC
+    DECIMALS_2, // VL_COFINS_REC
+    DECIMALS_2, // VL_TRIB_NC
+    DECIMALS_2, // VL_ESTQ_NC
+    C255, // NUM_LCTO
+    C255, // COD_INF_OBS
     // H030
     CODE,
-    FREE,
-    FREE,
-    FREE,
-    FREE,
-    FREE,
-    FREE,
-    FREE,
-    FREE,
-    FREE,
-    FREE,
-    FREE,
-    FREE,
-    FREE,
-    FREE,
-    FREE,
+    N1, // IND_POSSE
+    C255, // COD_PART
+    N1, // IND_ITEM
+    N8, // COD_NCM
+    C255, // COD_ITEM
+    C255, // UNID
+    DECIMALS_6, // VL_UNIT
+    DECIMALS_6, // QTD
+    DECIMALS_2, // VL_ITEM
+    DECIMALS_2, // VL_ICMS_REC_I
+    DECIMALS_2, // VL_IPI_REC_I
+    DECIMALS_2, // VL_PIS_REC_I
+    DECIMALS_2, // VL_COFINS_REC_I
+    DECIMALS_2, // VL_TRIB_NC_I
+    C255, // COD_INF_OBS
     // H040
     CODE,
-    FREE,
-    FREE,
+    N1, // IND_POSSE
+    DECIMALS_2, // VL_SUB_POSSE
     // H050
     CODE,
-    FREE,
-    FREE,
+    N1, // IND_ITEM
+    DECIMALS_2, // VL_SUB_ITEM
     // H060
     CODE,
-    FREE,
-    FREE,
+    N8, // COD_NCM
+    DECIMALS_2, // VL_SUB_NCM
     // H990
     CODE,
-    COUNT,
+    COUNT, // QTD_LIN_H
     // 9001
     CODE,
-    OPENS,
+    OPENS, // IND_DAD
     // 9990
     CODE,
-    COUNT,
+    COUNT, // QTD_LIN_9
     // 9999
     CODE,
-    COUNT,
+    COUNT, // QTD_LIN
 ];

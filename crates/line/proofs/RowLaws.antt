@@ -10,22 +10,23 @@ use lib.Dec.{eqb}
 use lib.ListN.{List·getD-eq-default}
 use Rattle.layout.specs.Pick.{pick}
 use Rattle.layout.specs.Rows.{rowCount, none, fields, rowOfCode}
-use Rattle.layout.specs.Kinds.{codeField, free, kind}
+use Rattle.layout.specs.Kind.{codeField, noField}
+use Rattle.layout.specs.Kinds.{kind}
 use Rattle.layout.proofs.KindLaws.{kind-past, kinds-none}
 use Rattle.layout.proofs.RoleLaws.{fields-none}
 use Rattle.layout.proofs.CodeLaws.{row-of-code-le}
 use Rattle.line.specs.declared.hot.Hot.{Hot}
 use Rattle.line.specs.Machine.{wordRow}
 
-none-past : (n : ℕ) → 1 < n → kind none n ≡ free
+none-past : (n : ℕ) → 1 < n → kind none n ≡ noField
 unfolding kind
-none-past n h = rw (kinds-none none (le-refl rowCount)) (List·getD-eq-default (codeField ∷ []) free {n = n - 1} (omega arith))
+none-past n h = rw (kinds-none none (le-refl rowCount)) (List·getD-eq-default (codeField ∷ []) noField {n = n - 1} (omega arith))
 
 -- past the fields of a row, and of no row, none is to come
-pub past-free : (r n : ℕ) → r ≤ rowCount → fields r < n → kind r n ≡ free
-past-free r n h past = go (decLt r rowCount)
+pub past-none : (r n : ℕ) → r ≤ rowCount → fields r < n → kind r n ≡ noField
+past-none r n h past = go (decLt r rowCount)
   where
-    go : Dec (r < rowCount) → kind r n ≡ free
+    go : Dec (r < rowCount) → kind r n ≡ noField
     go (yes l) = kind-past r n l past
     go (no l) = let e : r ≡ none = omega arith in rw e (none-past n (rw (e, fields-none) at past))
 

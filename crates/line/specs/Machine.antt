@@ -8,7 +8,8 @@ use lib.ListN.{getD}
 use Rattle.layout.specs.Pick.{pick}
 use Rattle.layout.specs.Rows.{rowCount, none, anyNumber, level, limit, fields, mostFields, block}
 use Rattle.layout.specs.Rows.{parent, isOpening, isClosing, row0000, row9990, row9999, rowOfCode}
-use Rattle.layout.specs.Kinds.{opens, kind}
+use Rattle.layout.specs.Kind.{opens}
+use Rattle.layout.specs.Kinds.{kind}
 use Rattle.layout.specs.Packed.{rowNumbers, parentColumn, packedKinds, startColumn, slotTable, codeClass, kindNumber, mostKind}
 use Rattle.rules.specs.Bytes.{bar, CR, LF, isEndByte}
 use Rattle.rules.specs.Order.{isData}

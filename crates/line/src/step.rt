@@ -20,7 +20,6 @@ use crate::order::has_room;
 use crate::order::misplaced;
 use crate::order::stands;
 use field::bytes::CLASS_COUNT;
-use field::bytes::CLASS_FREE;
 use field::bytes::CLASS_OPENS;
 use field::bytes::SIZE_UNIT;
 use field::fault::fault;
@@ -72,6 +71,9 @@ const CODE_LENGTH: u64 = 4;
 // The place of block 9 in the order of blocks.
 const LAST_BLOCK: u64 = 6;
 
+// What stands past a row's fields.
+const NO_FIELD: u64 = layout::kinds::NO_FIELD as u64;
+
 // The kind of field 2 of an opening: one digit.
 const OPENS_KIND: u64 = CLASS_OPENS + SIZE_UNIT;
 
@@ -92,7 +94,7 @@ fn word_row(rows: &[[u64; 4]; ENTRIES], slots: &[usize; SLOTS], h: Hot) -> usize
     ROWS
 }
 
-// The kind of a row's field n; past the row's fields there is none, and free stands for it.
+// The kind of a row's field n. It is bounded by the row's fields: the table goes on with the next row's kinds.
 fn kind_of(
     rows: &[[u64; 4]; ENTRIES],
     kinds: &[u32; FIELDS],
@@ -104,7 +106,7 @@ fn kind_of(
     ensures { λ k. ⌜ k ≡ kindNumber (kind r n) ⌝ }
 {
     if fields_at(rows, r) < n {
-        return 0;
+        return NO_FIELD;
     }
     kind_at(kinds, starts, r, n as usize) as u64
 }
@@ -161,15 +163,12 @@ fn due(rows: &[[u64; 4]; ENTRIES], h: Hot) -> u64
     h.since + 1
 }
 
-// The rule that the field at hand breaks, or 0. Of a free field nothing is asked, and what is due is asked of counts alone.
+// The rule that the field at hand breaks, or 0. What is due is asked of counts alone.
 fn found(rows: &[[u64; 4]; ENTRIES], h: Hot) -> u64
     requires { ⌜ HotFit h ⌝ }
     requires { ⌜ now rows ≡ rowNumbers ⌝ }
     ensures { λ n. ⌜ n ≡ faultOf (h .kind) (h .field) (dueOf h) ⌝ }
 {
-    if h.kind == CLASS_FREE {
-        return 0;
-    }
     if h.kind % SIZE_UNIT == CLASS_COUNT {
         return fault(h.kind, h.field, due(rows, h));
     }

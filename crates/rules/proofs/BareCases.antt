@@ -3,6 +3,7 @@ use mathlib.Core.Path.{_≡_, refl}
 use mathlib.Core.List.{map}
 use Rattle.layout.specs.Text
 use Rattle.layout.specs.Rows
+use Rattle.layout.specs.Sheets
 use Rattle.layout.specs.Kinds
 use Rattle.rules.specs.Bytes
 use Rattle.rules.specs.Order
@@ -21,11 +22,12 @@ line-cases = refl
 
 pub byte-cases : map (λ c. c .says) byteCases ≡ map (λ c. c .given) byteCases
 unfolding byteCases numberOf brokenAfter dated Text.bytes Text.codeNumber Text.textNumber Rows.rowTable
-    Rows.listed Rows.code Rows.fields Rows.isOpening Rows.isClosing Rows.rowFrom Rows.rowOfCode Kinds.sheets
-    Kinds.sheetOr Kinds.kindsOf Kinds.kind Bytes.cut Bytes.lineAtHand Bytes.part Bytes.field Bytes.rowOfWord
-    Bytes.rowOf Bytes.rowAtHand Bytes.bars Bytes.word Bytes.empty Bytes.isEndByte Fields.isDigit
-    Fields.allDigits Fields.value Fields.isLeapYear Fields.daysOf Fields.isDate Fields.sameBytes Fields.isText
-    Fields.formOf Rules.inField Rules.pastFields Rules.isCodeBar Rules.isFieldBar Rules.formAtHand Rules.breaks1
-    Rules.breaks2 Rules.breaks3 Rules.breaks4 Rules.breaks5 Rules.breaks6 Rules.breaks7 Rules.breaks8
-    Rules.breaks9 Rules.breaks10 Rules.breaks11 Rules.breaks12 Rules.breaks13 Rules.rules Rules.firstBroken
+    Rows.listed Rows.code Rows.fields Rows.isOpening Rows.isClosing Rows.rowFrom Rows.rowOfCode Sheets.sheets
+    Kinds.kindOf Kinds.sheetOf Kinds.fitted Kinds.kindsOf Kinds.kind Bytes.cut Bytes.lineAtHand
+    Bytes.part Bytes.field Bytes.rowOfWord Bytes.rowOf Bytes.rowAtHand Bytes.bars Bytes.word Bytes.empty
+    Bytes.isEndByte Fields.isDigit Fields.allDigits Fields.value Fields.isDecimal Fields.isLeapYear
+    Fields.daysOf Fields.isDate Fields.sameBytes Fields.isText Fields.formOf Rules.inField Rules.pastFields
+    Rules.isCodeBar Rules.isFieldBar Rules.formAtHand Rules.breaks1 Rules.breaks2 Rules.breaks3 Rules.breaks4
+    Rules.breaks5 Rules.breaks6 Rules.breaks7 Rules.breaks8 Rules.breaks9 Rules.breaks10 Rules.breaks11
+    Rules.breaks12 Rules.breaks13 Rules.rules Rules.firstBroken
 byte-cases = refl

@@ -3,6 +3,7 @@ use mathlib.Core.Path.{_≡_, refl}
 use mathlib.Core.List.{map}
 use Rattle.layout.specs.Text
 use Rattle.layout.specs.Rows
+use Rattle.layout.specs.Sheets
 use Rattle.layout.specs.Kinds
 use Rattle.rules.specs.Bytes
 use Rattle.rules.specs.Order
@@ -18,7 +19,7 @@ unfolding cases fileOf
     Text.bytes Text.codeNumber Text.textNumber
     Rows.rowTable Rows.listed Rows.code Rows.fields Rows.level Rows.occurrence Rows.limit Rows.blockLetters Rows.placeOf
     Rows.block Rows.isOpening Rows.isClosing Rows.lastAmong Rows.parent Rows.opening Rows.rowFrom Rows.rowOfCode
-    Kinds.sheets Kinds.sheetOr Kinds.kindsOf Kinds.kind
+    Sheets.sheets Kinds.kindOf Kinds.sheetOf Kinds.fitted Kinds.kindsOf Kinds.kind
     Bytes.cut Bytes.lines Bytes.lineAtHand Bytes.part Bytes.field Bytes.rowOfWord Bytes.rowOf Bytes.rows Bytes.rowAtHand
     Bytes.bars Bytes.word Bytes.empty Bytes.isEndByte
     Order.last Order.shallower Order.openRows Order.among Order.isOpen Order.startsFile Order.startsBlock Order.endsBlock

@@ -6,7 +6,7 @@ use Prim.Native.String.{String}
 use Rattle.layout.specs.Pick.{pick}
 use Rattle.layout.specs.Text.{bytes, textNumber}
 use Rattle.layout.specs.Rows.{rowOfCode}
-use Rattle.layout.specs.Kinds.{date}
+use Rattle.layout.specs.Kind.{date}
 use Rattle.rules.specs.Bytes.{bar, CR, LF}
 use Rattle.rules.specs.Order.{canStand, hasRoom}
 use Rattle.rules.specs.Counts.{due}
@@ -76,6 +76,24 @@ byteCases =
     bare 8 (brokenAfter "|0001|1|" bar) ∷
     bare 2 (brokenAfter "|0001|1" CR) ∷
     bare 9 (brokenAfter "|0001|1|" LF) ∷
+    -- an amount of E340: two decimals stand; one, three, none and a letter: 10
+    bare 0 (brokenAfter "|E340|12,50" bar) ∷
+    bare 10 (brokenAfter "|E340|12,5" bar) ∷
+    bare 10 (brokenAfter "|E340|12,500" bar) ∷
+    bare 10 (brokenAfter "|E340|12" bar) ∷
+    bare 10 (brokenAfter "|E340|1Z,50" bar) ∷
+    -- field 11 of F215 has three decimals, as its columns say
+    bare 0 (brokenAfter "|F215||||||||||4,599" bar) ∷
+    bare 10 (brokenAfter "|F215||||||||||4,599000" bar) ∷
+    -- E003: a text called fixed is judged by size only
+    bare 0 (brokenAfter "|E003|SP" bar) ∷
+    bare 11 (brokenAfter "|E003|PE " bar) ∷
+    -- G440: a code of two digits for three; H020: no such date
+    bare 11 (brokenAfter "|G440|PE|12" bar) ∷
+    bare 12 (brokenAfter "|H020|0|31112011" bar) ∷
+    -- the fourth field of C310 is its last, and E500 has one after its dates
+    bare 8 (brokenAfter "|C310|01|1,00|5,00|" bar) ∷
+    bare 7 (brokenAfter "|E500|01012012|31012012|" CR) ∷
     -- 29022011: 12; 29022012: a date
     bare 12 (dated "29022011") ∷
     bare 0 (dated "29022012") ∷

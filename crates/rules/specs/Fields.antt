@@ -7,7 +7,7 @@ use lib.Dec.{eqb, leb}
 use lib.ListN.{getD, take, drop}
 use Rattle.layout.specs.Pick.{pick}
 use Rattle.layout.specs.Text.{bytes}
-use Rattle.layout.specs.Kinds.{Kind, codeField, free, C, N, N-, decimals, date, lfpd, brasil, opens, count}
+use Rattle.layout.specs.Kind.{Kind, codeField, C, N, N-, decimals, date, lfpd, brasil, opens, count, noField}
 use Rattle.rules.specs.Bytes.{empty}
 
 unfoldable pub isDigit : ℕ → Bool
@@ -84,7 +84,6 @@ form characters size content = record { characters = characters; size = size; co
 -- a date is N of size 8, field 2 of an opening N of size 1, the fixed texts C of sizes 4 and 6; counts are digits of any length
 unfoldable pub formOf : Kind → Form
 formOf codeField = form any any any
-formOf free = form any any any
 formOf (C s) = form any (atMost s) any
 formOf (N s) = form allDigits (exactly s) any
 formOf N- = form allDigits any any
@@ -94,6 +93,7 @@ formOf lfpd = form any (atMost 4) (isText "LFPD")
 formOf brasil = form any (atMost 6) (isText "Brasil")
 formOf opens = form allDigits (exactly 1) (λ w. isText "0" w || isText "1" w)
 formOf count = record { characters = allDigits; size = any; content = any; isCount = true }
+formOf noField = form any any any
 
 -- a count states the number n
 unfoldable pub states : ℕ → List ℕ → Bool

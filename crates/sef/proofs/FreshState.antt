@@ -3,7 +3,8 @@ use mathlib.Core.Path.{_≡_, _∙_, refl, sym, ap}
 use mathlib.Core.List.{[]}
 use Rattle.layout.specs.Text.{bytes, codeNumber, textNumber}
 use Rattle.layout.specs.Rows.{rowTable, listed, code, fields, isOpening, isClosing}
-use Rattle.layout.specs.Kinds.{sheets, sheetOr, kindsOf, kind}
+use Rattle.layout.specs.Sheets.{sheets}
+use Rattle.layout.specs.Kinds.{kindOf, sheetOf, fitted, kindsOf, kind}
 use Rattle.layout.specs.Packed.{kindNumber}
 use Rattle.rules.specs.Bytes.{cut, lines, lineAtHand, part, field, rowOfWord, rowOf, rows, rowAtHand, bars, word}
 use Rattle.rules.specs.Order.{last}
@@ -20,7 +21,7 @@ use Rattle.sef.proofs.StateAfter.{openAt, checkedAfter, after-clean}
 fresh-open : fresh ≡ openAt [] .state
 unfolding fresh openOf says lastSays lines rows last since cut lineAtHand bars word rowAtHand rowOf rowOfWord
     field part fields listed rowTable kind kindsOf isOpening isClosing code bytes codeNumber textNumber
-    sheets sheetOr kindNumber fieldAfter countsOfRows tabulate linesOfRow stamps stamped occurrences occurred
+    fitted kindOf sheetOf sheets kindNumber fieldAfter countsOfRows tabulate linesOfRow stamps stamped occurrences occurred
 fresh-open = refl
 
 pub fresh-is : fresh ≡ checkedAfter [] .state

@@ -4,9 +4,6 @@ use borrow.Author.Needs.{needs}
 use Rattle.field.proofs.bytes.with_byte.Statement.{statement}
 use Rattle.field.proofs.bytes.with_byte.Tie as tie
 
-is-plain-requires : tie.Need-is-plain-requires
-is-plain-requires c κs = search needs
-
 add-t6 : tie.Need-add-t6
 add-t6 c = search needs
 
@@ -49,7 +46,6 @@ pub with-byte-spec : {M : Type 1} → statement M
 with-byte-spec =
     tie.close
     (tie.spec
-    is-plain-requires
     add-t6
     returns
     code-with-requires

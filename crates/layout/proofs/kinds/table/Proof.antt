@@ -1,17 +1,25 @@
--- The table holds the kinds of all fields: both sides compute to the same list.
-use mathlib.Core.Path.{refl}
+-- The table holds the kinds of all fields: compared entry by entry, it is the definition's.
+use mathlib.Core.Path.{_≡_, refl}
+use borrow.Fn.Function as function
 use Rattle.layout.specs.Text.{bytes, codeNumber, textNumber}
-use Rattle.layout.specs.Rows.{rowTable, listed, code, fields, isOpening, isClosing}
-use Rattle.layout.specs.Kinds.{kindsOf, sheetOr, sheets}
-use Rattle.layout.specs.Packed.{packedKinds, flatKinds, kindNumber}
 use Rattle.layout.specs.Lists.{joinedParts}
+use Rattle.layout.specs.Rows.{rowTable, listed, code, fields, isOpening, isClosing}
+use Rattle.layout.specs.Sheets.{sheets}
+use Rattle.layout.specs.Kinds.{kindOf, sheetOf, fitted, kindsOf}
+use Rattle.layout.specs.Packed.{kindNumber, flatKinds, packedKinds}
+use Rattle.layout.proofs.Compared.{same, compared, same-lists}
 use Rattle.layout.proofs.kinds.table.Statement.{statement}
+use Rattle.layout.proofs.kinds.table.Lts as lts
+use Rattle.layout.proofs.kinds.table.Reads as reads
 use Rattle.layout.proofs.kinds.table.Tie as tie
 
-returns : tie.Need-returns
-unfolding packedKinds flatKinds joinedParts kindNumber kindsOf sheetOr sheets
+all-same : (c : tie.Start) → compared 0 (function.resV lts.r tt (lts.m2 reads.Pre reads.Post (c .args) .0)) packedKinds ≡ same
+unfolding compared packedKinds flatKinds joinedParts kindNumber kindsOf fitted kindOf sheetOf sheets
     isOpening isClosing fields code listed rowTable textNumber codeNumber bytes
-returns c = refl
+all-same c = refl
+
+returns : tie.Need-returns
+returns c = same-lists (all-same c)
 
 pub table-spec : {M : Type 1} → statement M
 table-spec = tie.close (tie.spec returns)

@@ -3,7 +3,7 @@ use Prim.Native.Nat.{_≤_}
 use native.Mathlib.Omega.{arith}
 use Rattle.layout.specs.Rows.{fields}
 use Rattle.layout.specs.Packed.{kindNumber}
-use Rattle.line.proofs.RowLaws.{past-free, field-row}
+use Rattle.line.proofs.RowLaws.{past-none, field-row}
 use Rattle.line.proofs.step.kind_of.Statement.{statement}
 use Rattle.line.proofs.step.kind_of.Tie as tie
 
@@ -14,7 +14,7 @@ returns : tie.Need-returns
 unfolding kindNumber
 returns c =
     let start = c .before .before in
-    rw (past-free (start .args .r) (start .args .n) (start .pre .3) (omega (arith, c .before .fields-at .ensures)))
+    rw (past-none (start .args .r) (start .args .n) (start .pre .3) (omega (arith, c .before .fields-at .ensures)))
 
 kind-at-requires : tie.Need-kind-at-requires
 kind-at-requires c κs =

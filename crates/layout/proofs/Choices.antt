@@ -1,0 +1,17 @@
+-- What docs/FIELDS.md says of the sheets and of single fields, by computation.
+use mathlib.Core.Path.{_≡_, refl}
+use mathlib.Core.List.{[], _∷_, map}
+use Rattle.layout.specs.Text.{bytes, codeNumber, textNumber}
+use Rattle.layout.specs.Rows.{rowTable, listed, code, fields, isOpening, isClosing, rowFrom, rowOfCode}
+use Rattle.layout.specs.Sheets.{sheets}
+use Rattle.layout.specs.Kinds.{kindOf, sheetOf, fitted, kindsOf, kind}
+use Rattle.layout.specs.Choices.{unequal, choices}
+
+pub unequal-rows : unequal rowTable ≡ "C305" ∷ "C310" ∷ "E500" ∷ []
+unfolding unequal sheetOf sheets rowTable
+unequal-rows = refl
+
+pub choices-stand : map (λ c. c .says) choices ≡ map (λ c. c .given) choices
+unfolding choices kind kindsOf fitted kindOf sheetOf sheets isOpening isClosing fields code rowOfCode rowFrom
+    listed rowTable textNumber codeNumber bytes
+choices-stand = refl
