@@ -40,6 +40,19 @@ pub struct Field {
     pub kind: Kind,
 }
 
+impl Role {
+    /// What is said of a field beyond its columns; nothing of a plain one.
+    pub fn word(&self) -> Option<&'static str> {
+        match self {
+            Role::Plain => None,
+            Role::Date => Some("date"),
+            Role::Fixed(text) => Some(text),
+            Role::Mark => Some("mark"),
+            Role::Count => Some("count"),
+        }
+    }
+}
+
 impl Kind {
     /// The most bytes that stand in a C field.
     pub fn longest_text(&self) -> usize {
@@ -73,15 +86,14 @@ impl Kind {
 
 impl fmt::Display for Kind {
     fn fmt(&self, to: &mut fmt::Formatter) -> fmt::Result {
-        match (self.role, self.size, self.decimals) {
-            (Role::Date, ..) => write!(to, "date"),
-            (Role::Fixed(text), ..) => write!(to, "{text}"),
-            (Role::Mark, ..) => write!(to, "opening mark"),
-            (Role::Count, ..) => write!(to, "count"),
+        if let Some(word) = self.role.word() {
+            return write!(to, "{word}");
+        }
+        match (self.size, self.decimals) {
             _ if !self.numeric => write!(to, "C at most {}", self.longest_text()),
-            (_, Some(1), _) => write!(to, "N of 1 digit"),
-            (_, Some(size), _) => write!(to, "N of {size} digits"),
-            (_, _, Some(decimals)) => write!(to, "N with {decimals} decimals"),
+            (Some(1), _) => write!(to, "N of 1 digit"),
+            (Some(size), _) => write!(to, "N of {size} digits"),
+            (_, Some(decimals)) => write!(to, "N with {decimals} decimals"),
             _ => write!(to, "N"),
         }
     }
@@ -190,7 +202,7 @@ mod tests {
         let names: std::collections::BTreeSet<String> = kinds.keys().map(Kind::to_string).collect();
         assert_eq!(names.len(), kinds.len());
         let number = |name: &str| kinds.iter().find(|kind| kind.0.to_string() == name).unwrap().1;
-        assert_eq!((*number("LFPD"), *number("opening mark"), *number("count")), (1, 7, 8));
+        assert_eq!((*number("LFPD"), *number("mark"), *number("count")), (1, 7, 8));
         assert_eq!((*number("C at most 65536"), *number("N with 6 decimals")), (1, 10));
     }
 

@@ -135,7 +135,7 @@ mod tests {
     #[test]
     fn kinds_of_base() {
         let met = met_in_file(&base());
-        let kinds = ["C at most 255", "LFPD", "Brasil", "count", "opening mark", "date"];
+        let kinds = ["C at most 255", "LFPD", "Brasil", "count", "mark", "date"];
         assert_eq!(stood(&met), kinds);
         assert!(met.refused.is_none());
     }
@@ -176,12 +176,12 @@ mod tests {
     fn what_a_tally_misses() {
         let mut tally = KindTally::default();
         let all = tally.missing();
-        assert!(all.contains(&"opening mark never refused by 12".to_string()));
+        assert!(all.contains(&"mark never refused by 12".to_string()));
         assert!(!all.iter().any(|text| text.starts_with("C at most 0 never stood")));
         tally.add(met_in_file(&base_field(2, 2, b"2")));
         let missing = tally.missing();
-        assert!(!missing.contains(&"opening mark never refused by 12".to_string()));
-        assert!(missing.contains(&"opening mark never stood".to_string()));
+        assert!(!missing.contains(&"mark never refused by 12".to_string()));
+        assert!(missing.contains(&"mark never stood".to_string()));
         // LFPD, Brasil, a text and two dates stood, the mark was refused
         assert_eq!(missing.len(), all.len() - 5);
     }
