@@ -1,6 +1,6 @@
 -- A test at each number below n, computed once, and what it says of each of them.
-use mathlib.Core.Path.{_≡_, refl}
-use mathlib.Core.Bool.{Bool, true, false, not, _&&_}
+use mathlib.Core.Path.{_≡_}
+use mathlib.Core.Bool.{Bool, true, false, _&&_}
 use mathlib.Core.Logic.{⊎-elim}
 use Prim.Native.Nat.{ℕ, zero, suc, _<_, _≤_}
 use native.Mathlib.Nat.{not-suc-le-zero, le-of-suc-le-suc, eq-or-lt-of-le}
@@ -21,25 +21,12 @@ below-at (suc n) test t k h =
     (λ (l : k < n). below-at n test (and-r (test n) (below n test) t) k l)
     (eq-or-lt-of-le (le-of-suc-le-suc h))
 
--- the agree as the rule that the test computes
+-- what a test of equality, or of order, says
 pub below-equal : (n : ℕ) (f g : ℕ → ℕ) → T (below n (λ k. eqb (f k) (g k))) → (k : ℕ) → k < n → f k ≡ g k
 below-equal n f g t k h = eqb→eq (f k) (g k) (below-at n (λ k. eqb (f k) (g k)) t k h)
 
 pub below-most : (n : ℕ) (f g : ℕ → ℕ) → T (below n (λ k. leb (f k) (g k))) → (k : ℕ) → k < n → f k ≤ g k
 below-most n f g t k h = leb→le (f k) (g k) (below-at n (λ k. leb (f k) (g k)) t k h)
-
-abbrev pub agree : Bool → Bool → Bool
-agree true b = b
-agree false b = not b
-
-same-equal : (a b : Bool) → T (agree a b) → a ≡ b
-same-equal true true t = refl
-same-equal true false t = absurd t
-same-equal false true t = absurd t
-same-equal false false t = refl
-
-pub below-same : (n : ℕ) (f g : ℕ → Bool) → T (below n (λ k. agree (f k) (g k))) → (k : ℕ) → k < n → f k ≡ g k
-below-same n f g t k h = same-equal (f k) (g k) (below-at n (λ k. agree (f k) (g k)) t k h)
 
 -- of the numbers below n, those that are of a sort pass the test
 abbrev implies : Bool → Bool → Bool

@@ -28,7 +28,8 @@ field-count : rowStart rowCount ≡ fieldCount
 unfolding rowStart fields listed rowTable
 field-count = refl
 
--- "each row's part has exactly its number of fields, each of a kind 01 knows": computed once over the whole table
+-- "each row's part has exactly its number of fields, each of a kind 01 knows": computed once over the whole table. That no
+-- sheet is too short or too long, but for three, is unequal-rows (Choices)
 abbrev fits : ℕ → Bool
 fits r = eqb (length (kindsOf r)) (fields r) && every isKnown (kindsOf r)
 
@@ -46,7 +47,7 @@ part-length r h = eqb→eq _ _ (and-l (eqb (length (kindsOf r)) (fields r)) (eve
 part-known : (r : ℕ) → r < rowCount → T (every isKnown (kindsOf r))
 part-known r h = and-r (eqb (length (kindsOf r)) (fields r)) (every isKnown (kindsOf r)) (fit-at r h)
 
--- every field has a kind that 01 knows
+-- 02, request a, of a field: it has a kind that 01 knows
 pub field-known : (r n : ℕ) → r < rowCount → 1 ≤ n → n ≤ fields r → T (isKnown (kind r n))
 unfolding kind
 field-known r n h one le =
@@ -73,7 +74,14 @@ pub kind-past : (r n : ℕ) → r < rowCount → fields r < n → kind r n ≡ n
 unfolding kind
 kind-past r n h past = let len = part-length r h in List·getD-eq-default (kindsOf r) noField (omega arith)
 
--- field 2 of an opening alone has the kind opens: computed once, at the kinds of the other rows
+-- what the kinds of the rows of a sort pass, computed once, their fields pass, and what stands past them too
+pub kinds-pass : (sort : ℕ → Bool) (test : Kind → Bool) → T (those rowCount sort (λ r. every test (kindsOf r)))
+    → T (test noField) → (r n : ℕ) → r < rowCount → sort r ≡ true → T (test (kind r n))
+unfolding kind
+kinds-pass sort test all none r n h e =
+    every-or test (kindsOf r) (those-at rowCount sort (λ r. every test (kindsOf r)) all r h e) (n - 1) noField none
+
+-- field 2 of an opening alone has the kind opens
 abbrev isOpens : Kind → Bool
 isOpens k = eqb (kindNumber k) (kindNumber opens)
 
@@ -83,14 +91,12 @@ noOpens k = not (isOpens k)
 abbrev isOther : ℕ → Bool
 isOther r = not (isOpening r)
 
-abbrev opensless : ℕ → Bool
-opensless r = every noOpens (kindsOf r)
-
-others-opensless : T (those rowCount isOther opensless)
+others-opensless : T (those rowCount isOther (λ r. every noOpens (kindsOf r)))
 unfolding those below every kindNumber kindsOf fitted kindOf sheetOf sheets isOpening isClosing
     fields code listed rowTable textNumber codeNumber bytes
 others-opensless = tt
 
+-- of an opening's two fields it is the second
 in-opening : (n : ℕ) → isOpens (getD (codeField ∷ opens ∷ []) (n - 1) noField) ≡ (eqb n 2 && true)
 unfolding kindNumber
 in-opening zero = refl
@@ -109,8 +115,7 @@ opens-kind r n h = go (isOpening r) refl
     go : (o : Bool) → isOpening r ≡ o → isOpens (kind r n) ≡ (eqb n 2 && isOpening r)
     go true e = unfold kindsOf in rw e (in-opening n)
     go false e =
-        let none = those-at rowCount isOther opensless others-opensless r h (rw e) in
-        let other = every-or noOpens (kindsOf r) none (n - 1) noField tt in
+        let other = kinds-pass isOther noOpens others-opensless tt r n h (rw e) in
         rw (e, not-true (isOpens (kind r n)) (is-true _ other), and-false (eqb n 2))
 
 -- no kind's number is above mostKind

@@ -16,7 +16,9 @@ use Rattle.layout.proofs.KindLaws.{flat-kind, fields-within}
 -- the rows: a row's numbers, and each by its place
 row-at : (r : ℕ) → r ≤ rowCount → getD rowNumbers r [] ≡ fourNumbers (listed r)
 unfolding rowNumbers listed rowTable
-row-at r h = map-at fourNumbers (rowTable ++ noRow ∷ []) r noRow [] (suc-le-suc h) ∙ ap fourNumbers (with-default-at rowTable noRow r)
+row-at r h =
+    map-at fourNumbers (rowTable ++ noRow ∷ []) r noRow [] (suc-le-suc h)
+    ∙ ap fourNumbers (with-default-at rowTable noRow r)
 
 number-at : (n r : ℕ) → r ≤ rowCount → getD (getD rowNumbers r []) n 0 ≡ getD (fourNumbers (listed r)) n 0
 number-at n r h = ap (λ numbers. getD numbers n 0) (row-at r h)
@@ -47,9 +49,11 @@ unfolding startColumn
 start-entry r h = tabulate-at (suc rowCount) rowStart r 0 (suc-le-suc h)
 
 -- the kinds
-pub kind-entry : (r n : ℕ) → r < rowCount → 1 ≤ n → n ≤ fields r → getD packedKinds (rowStart r + (n - 1)) 0 ≡ kindNumber (kind r n)
+pub kind-entry : (r n : ℕ) → r < rowCount → 1 ≤ n → n ≤ fields r
+    → getD packedKinds (rowStart r + (n - 1)) 0 ≡ kindNumber (kind r n)
 unfolding packedKinds kindNumber
-kind-entry r n h one le = List·getD-map kindNumber flatKinds (rowStart r + (n - 1)) noField ∙ ap kindNumber (flat-kind r n h one le)
+kind-entry r n h one le =
+    List·getD-map kindNumber flatKinds (rowStart r + (n - 1)) noField ∙ ap kindNumber (flat-kind r n h one le)
 
 -- a field's kind stands within the table
 pub kind-within : (starts : List ℕ) (r n : ℕ) → starts ≡ startColumn → r < rowCount → 1 ≤ n → n ≤ fields r

@@ -1,7 +1,7 @@
 -- What the laws of the step need of the layout's tables, by computation.
 use mathlib.Core.Path.{_≡_}
 use mathlib.Core.Bool.{Bool, true, not, _||_}
-use Prim.Native.Nat.{ℕ, zero, suc, _-_, _<_, _≤_}
+use Prim.Native.Nat.{ℕ, zero, suc, _<_, _≤_}
 use native.Mathlib.Omega.{arith}
 use native.Mathlib.Nat.{le-refl}
 use lib.Dec.{T, eqb}
@@ -9,15 +9,15 @@ use lib.Ieee.Bits.{is-true}
 use borrow.Author.Tests.{not-true}
 use Rattle.layout.specs.Text.{bytes, codeNumber, textNumber}
 use Rattle.layout.specs.Rows.{rowTable, rowCount, none, row9999, listed, code, fields, isOpening, isClosing}
-use Rattle.layout.specs.Kind.{Kind, noField}
+use Rattle.layout.specs.Kind.{Kind}
 use Rattle.layout.specs.Sheets.{sheets}
 use Rattle.layout.specs.Kinds.{kindOf, sheetOf, fitted, kindsOf, kind}
 use Rattle.layout.specs.Packed.{kindNumber}
 use Rattle.rules.specs.Fields.{formOf}
 use Rattle.rules.proofs.TestLaws.{split, both}
-use Rattle.layout.proofs.Below.{below, those, those-at}
-use Rattle.layout.proofs.Every.{every, every-or}
-use Rattle.layout.proofs.KindLaws.{kinds-none}
+use Rattle.layout.proofs.Below.{below, those}
+use Rattle.layout.proofs.Every.{every}
+use Rattle.layout.proofs.KindLaws.{kinds-none, kinds-pass}
 
 -- until its code has come a line has field 1 alone, the code
 pub early-kind : (n : ℕ) → n ≤ 1 → kindNumber (kind none n) ≡ 1
@@ -33,17 +33,13 @@ noCount k = not (formOf k .isCount)
 abbrev other : ℕ → Bool
 other r = not (isClosing r || eqb r row9999)
 
-abbrev countless : ℕ → Bool
-countless r = every noCount (kindsOf r)
-
-rows-countless : T (those rowCount other countless)
+rows-countless : T (those rowCount other (λ r. every noCount (kindsOf r)))
 unfolding those below every formOf kindsOf fitted kindOf sheetOf sheets isOpening isClosing fields code listed rowTable
     textNumber codeNumber bytes
 rows-countless = tt
 
 pub count-row : (r n : ℕ) → r < rowCount → formOf (kind r n) .isCount ≡ true → (isClosing r || eqb r row9999) ≡ true
-unfolding kind formOf
+unfolding formOf
 count-row r n h e =
     split (isClosing r || eqb r row9999) (λ t. t)
-    (λ t. let none = those-at rowCount other countless rows-countless r h (rw t) in
-    both e (not-true _ (is-true _ (every-or noCount (kindsOf r) none (n - 1) noField tt))))
+    (λ t. both e (not-true _ (is-true _ (kinds-pass other noCount rows-countless tt r n h (rw t)))))

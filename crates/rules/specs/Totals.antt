@@ -6,7 +6,7 @@ use mathlib.Core.Logic.{_⊎_}
 use Prim.Native.Nat.{ℕ, suc, _+_}
 use lib.Dec.{eqb}
 use Rattle.layout.specs.Pick.{pick}
-use Rattle.layout.specs.Rows.{block, isOpening, isClosing, row0000}
+use Rattle.layout.specs.Rows.{block, isOpening, isClosing}
 use Rattle.rules.specs.Bytes.{lines, rows, rowOf, field}
 use Rattle.rules.specs.Fields.{value}
 
