@@ -1,4 +1,4 @@
--- docs/FIELDS.md: the rows whose sheets have another number of fields than 2.6.1 gives, and the fields at which the sheets and
+-- docs/FIELDS.md: the rows whose sheets list another number of fields than 2.6.1 gives, and the fields at which the sheets and
 -- the other texts part ways, with what each of them is here.
 use mathlib.Core.Bool.{Bool, not, _&&_, _||_}
 use mathlib.Core.List.{List, [], _∷_}
@@ -14,13 +14,13 @@ use Rattle.layout.specs.Sheets.{sheets}
 use Rattle.layout.specs.Kinds.{sheetOf, kind}
 
 -- the data lines and 0000 go by their sheets; openings and closings, of level 1, and 9999 don't
-abbrev hasSheet : Listed → Bool
-hasSheet l = not (eqb (l .level) 1 || sameText (l .code) "9999")
+abbrev goesBySheet : Listed → Bool
+goesBySheet l = not (eqb (l .level) 1 || sameText (l .code) "9999")
 
 abbrev isUnequal : Listed → Bool
-isUnequal l = hasSheet l && not (eqb (length (sheetOf (l .code) sheets)) (l .fields))
+isUnequal l = goesBySheet l && not (eqb (length (sheetOf (l .code) sheets)) (l .fields))
 
--- the codes of the rows whose sheets have not as many fields as 2.6.1 gives the row
+-- the codes of the rows whose sheets do not list as many fields as 2.6.1 gives the row
 unfoldable pub unequal : List Listed → List String
 unequal [] = []
 unequal (l ∷ ls) = let rest = unequal ls in pick (isUnequal l) (l .code ∷ rest) rest
@@ -49,7 +49,7 @@ choices =
     choice "E500" 5 noField ∷
     -- the columns decide over descriptions: VL_UNIT of F215 "com 6 decimais" has 3
     choice "F215" 11 (decimals 3) ∷
-    -- texts that a sheet calls fixed are judged by size only, 01's two apart
+    -- texts that a sheet calls fixed are judged by their columns only, 01's two apart
     choice "E003" 2 (C 2) ∷
     choice "E003" 3 (C 4) ∷
     choice "E003" 4 N- ∷

@@ -1,4 +1,4 @@
--- 01, "Fields of the typed lines": the kinds that a field can have.
+-- 01, "Fields of the typed lines": the kinds that a field can have. By 02, request a, all lines are typed.
 use mathlib.Core.Bool.{Bool, true, false, _&&_}
 use Prim.Native.Nat.{ℕ}
 use lib.Dec.{leb}
@@ -34,7 +34,8 @@ C- = C 255
 abbrev pub mostSize : ℕ
 mostSize = 65536
 
--- "each of a kind 01 knows": a number has one digit or more, and one decimal or more where it has any
+-- "each of a kind 01 knows": a number has one digit or more, and one decimal or more where it has any. The largest size bounds
+-- the numbers by which the source holds the kinds
 unfoldable pub isKnown : Kind → Bool
 isKnown codeField = true
 isKnown (C s) = leb s mostSize

@@ -20,8 +20,8 @@ unfoldable pub sheetOf : String → List Sheet → List Entry
 sheetOf code [] = LIN ∷ []
 sheetOf code (s ∷ ss) = let rest = sheetOf code ss in pick (sameText (s .of) code) (s .entries) rest
 
--- "Where its Appendix B and its table of lines (section 2.6.1) differ, 2.6.1 decides": a row has n fields; field k of the row
--- is field k of its sheet, and a field that no sheet gives is C without a size
+-- "Where its Appendix B and its table of lines (section 2.6.1) differ, 2.6.1 decides": a row has n fields. Field k of the row
+-- is field k of its sheet, and a field that no sheet gives is C without a size (docs/FIELDS.md)
 unfoldable pub fitted : ℕ → List Entry → List Kind
 fitted zero es = []
 fitted (suc n) [] = C- ∷ fitted n []

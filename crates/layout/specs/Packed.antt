@@ -78,7 +78,7 @@ kindNumber opens = opensClass + sizeUnit * 1
 kindNumber count = countClass
 kindNumber noField = noFieldClass
 
--- a class is below sizeUnit
+-- a class is below sizeUnit, a size at most mostSize
 abbrev pub mostKind : ℕ
 mostKind = sizeUnit * suc mostSize - 1
 

@@ -1,9 +1,9 @@
--- Appendix B, the sheets of the data lines: of each line its code and its fields, each with its name and what its columns say.
+-- Appendix B, the sheets of 0000 and of the data lines: of each its code and its fields, with name and columns.
 use mathlib.Core.List.{List, [], _∷_, _++_}
 use Prim.Native.String.{String}
 use Rattle.layout.specs.Kind.{Kind, codeField, C, C-, N, N-, decimals, lfpd, brasil}
 
--- an entry of a sheet: the field's name, and its columns tipo, tam and dec as a kind
+-- an entry of a sheet: the field's name, and its columns tipo, tam and dec as a kind; 01's two fixed texts stand in their place
 pub record Entry : Type 0 where
   pub name : String
   pub columns : Kind

@@ -20,6 +20,7 @@ codeNumber (b ∷ w) = codeNumber w % 16777216 * 256 + b
 unfoldable pub textNumber : String → ℕ
 textNumber t = codeNumber (reverse (bytes t))
 
+-- the same text, letter for letter
 abbrev pub sameText : String → String → Bool
 sameText s t = isEq (compare s t)
 

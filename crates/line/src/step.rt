@@ -94,7 +94,7 @@ fn word_row(rows: &[[u64; 4]; ENTRIES], slots: &[usize; SLOTS], h: Hot) -> usize
     ROWS
 }
 
-// The kind of a row's field n. It is bounded by the row's fields: the table goes on with the next row's kinds.
+// The kind of a row's field n. Past the row's last there is none, though the table goes on with the next row's kinds.
 fn kind_of(
     rows: &[[u64; 4]; ENTRIES],
     kinds: &[u32; FIELDS],

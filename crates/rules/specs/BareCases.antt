@@ -85,7 +85,7 @@ byteCases =
     -- field 11 of F215 has three decimals, as its columns say
     bare 0 (brokenAfter "|F215||||||||||4,599" bar) ∷
     bare 10 (brokenAfter "|F215||||||||||4,599000" bar) ∷
-    -- E003: a text called fixed is judged by size only
+    -- E003: a text that the sheet calls fixed, PE, is judged by its size only
     bare 0 (brokenAfter "|E003|SP" bar) ∷
     bare 11 (brokenAfter "|E003|PE " bar) ∷
     -- G440: a code of two digits for three; H020: no such date

@@ -1,4 +1,5 @@
--- 01, "Fields of the typed lines": what a field of each kind may hold. A word is a field's bytes, the latest first.
+-- 01, "Fields of the typed lines": what a field of each kind may hold. By 02, request a, all lines are typed.
+-- A word is a field's bytes, the latest first.
 use mathlib.Core.Bool.{Bool, true, false, not, _&&_, _||_}
 use mathlib.Core.List.{List, [], _∷_, reverse}
 use Prim.Native.Nat.{ℕ, suc, _+_, _-_, _*_, _/_, _%_}
