@@ -1,5 +1,5 @@
 # What a user runs. `make test` is the whole gate: it ends in rt's own 'N passed, 0 failed'.
-.PHONY: test compare bench long kit cargo
+.PHONY: test compare bench peer long kit cargo
 
 SEED = 1
 CASES = 42000
@@ -15,6 +15,10 @@ compare: kit cargo
 bench: kit
 	@[ -x target/bin/sefcheck ] || rt check sefcheck
 	@bench/bench.sh
+
+# The benchmark's C peer against the independent checker. Not part of the tests.
+peer: cargo
+	@tools/peer $(SEED) $(CASES)
 
 # A file at the byte limit, and one past it.
 long: kit

@@ -95,7 +95,7 @@ instructions() {
   stepping
 }
 
-stepping() { # the peer loops within a field; made to step byte by byte, as the program does, it is the like to compare with
+stepping() { # the peer passes whole fields; made to step byte by byte, as the program does, it is the like to compare with
   local steps
   steps=$(count "$dir/stepper" 1) || exit 2
   awk -v steps="$steps" 'NR == 1 { printf "peer stepping byte by byte, 1 MB: %.2f per byte, ratio %.2f\n", steps / $2, $3 / steps }' "$dir/counts"

@@ -7,6 +7,7 @@
  * made-up content (see content()), with a digit d to fill it only d times in
  * ten.
  */
+#include <stdbool.h>
 #include <stdint.h>
 #include <stdio.h>
 #include <stdlib.h>
@@ -184,7 +185,40 @@ static void put_code(const char *start, unsigned value, int width)
     put_number(value, width);
 }
 
-static void content(char letter)
+/* Numbers and codes; false where the letter is none of these. */
+static bool number_content(char letter)
+{
+    switch (letter) {
+    case 'B': put_number(below(2), 1); return true;
+    case 'C': put_digits(8); return true;
+    case 'D': put_date(); return true;
+    case 'G': put_digits(2); return true;
+    case 'H': put_digits(3); return true;
+    case 'I': put_code("", 789000000 + below(items), 13); return true;
+    case 'J': put_checked(12, 9); return true;
+    case 'K': put_digits(44); return true;
+    case 'L': put_amount(3); return true;
+    case 'N': put_number(documents, 1); return true;
+    case 'O': put_number(item_number, 1); return true;
+    case 'P': put_code("P", 1 + below(participants), 6); return true;
+    case 'Q': put_amount(6); return true;
+    case 'R': put_number(between(1, 3000), 1); return true;
+    case 'V': put_amount(2); return true;
+    case 'W': put_digits(7); return true;
+    case 'X': put_digits(11); return true;
+    case 'Y': put_digits(4); return true;
+    case 'Z': put("0,00"); return true;
+    case 'd': put_code("", 789000000 + items, 13); return true;
+    case 'p': put_code("P", participants, 6); return true;
+    case 'q': put_digits(9); return true;
+    case 'x': put_checked(9, 11); return true;
+    case 'z': put("0,000"); return true;
+    default: return false;
+    }
+}
+
+/* One of a few words that real files have there. */
+static bool word_content(char letter)
 {
     static const char *const models[] = {"55", "55", "55", "01", "04"};
     static const char *const states[] = {"PE", "PE", "PE", "PB", "AL", "BA", "CE", "SP", "RJ"};
@@ -199,48 +233,33 @@ static void content(char letter)
     static const char *const notes[] = {"OBS01", "OBS02", "OBS17"};
     static const char *const printers[] = {"BE0305SC5600248765", "EP051010000000034418", "DR0207BR000000128690"};
     switch (letter) {
-    case 'A': put(ANY_OF(rates)); break;
-    case 'B': put_number(below(2), 1); break;
-    case 'C': put_digits(8); break;
-    case 'D': put_date(); break;
+    case 'A': put(ANY_OF(rates)); return true;
+    case 'F': put(ANY_OF(cfops)); return true;
+    case 'M': put(ANY_OF(models)); return true;
+    case 'S': put(ANY_OF(states)); return true;
+    case 'U': put(ANY_OF(units)); return true;
+    case 'b': put(ANY_OF(quarters)); return true;
+    case 'c': put(ANY_OF(extras)); return true;
+    case 'g': put(ANY_OF(natures)); return true;
+    case 'h': put(ANY_OF(classes)); return true;
+    case 'm': put(ANY_OF(printers)); return true;
+    case 'o': put(ANY_OF(notes)); return true;
+    default: return false;
+    }
+}
+
+static void content(char letter)
+{
+    if (number_content(letter) || word_content(letter))
+        return;
+    switch (letter) {
     case 'E': put_mail(); break;
-    case 'F': put(ANY_OF(cfops)); break;
-    case 'G': put_digits(2); break;
-    case 'H': put_digits(3); break;
-    case 'I': put_code("", 789000000 + below(items), 13); break;
-    case 'J': put_checked(12, 9); break;
-    case 'K': put_digits(44); break;
-    case 'L': put_amount(3); break;
-    case 'M': put(ANY_OF(models)); break;
-    case 'N': put_number(documents, 1); break;
-    case 'O': put_number(item_number, 1); break;
-    case 'P': put_code("P", 1 + below(participants), 6); break;
-    case 'Q': put_amount(6); break;
-    case 'R': put_number(between(1, 3000), 1); break;
-    case 'S': put(ANY_OF(states)); break;
     case 'T': put_phone(); break;
-    case 'U': put(ANY_OF(units)); break;
-    case 'V': put_amount(2); break;
-    case 'W': put_digits(7); break;
-    case 'X': put_digits(11); break;
-    case 'Y': put_digits(4); break;
-    case 'Z': put("0,00"); break;
     case 'a': put_street(); break;
-    case 'b': put(ANY_OF(quarters)); break;
-    case 'c': put(ANY_OF(extras)); break;
-    case 'd': put_code("", 789000000 + items, 13); break;
     case 'f': put_firm(); break;
-    case 'g': put(ANY_OF(natures)); break;
-    case 'h': put(ANY_OF(classes)); break;
     case 'l': put_remark(); break;
-    case 'm': put(ANY_OF(printers)); break;
     case 'n': put_person(); break;
-    case 'o': put(ANY_OF(notes)); break;
-    case 'p': put_code("P", participants, 6); break;
-    case 'q': put_digits(9); break;
     case 'r': put_product(); break;
-    case 'x': put_checked(9, 11); break;
-    case 'z': put("0,000"); break;
     default: fprintf(stderr, "make_file: no content %c\n", letter); exit(2);
     }
 }

@@ -1,6 +1,6 @@
 /*
- * The checker's peer in C: reads a file in pieces, byte by byte, in one pass
- * and in constant memory, and says which rule of 01-scope.md it breaks first.
+ * The checker's peer in C: reads a file in pieces, in one pass and in constant
+ * memory, and says which rule of the rules document it breaks first.
  *
  *     peer           reads standard input and prints the six lines
  *     peer pieces    reads commands on standard input and answers each one
@@ -557,7 +557,7 @@ static place pass_field(const struct kind *kind, place at)
     return kind->form == DATE ? pass_date(at, kind->size) : NULL;
 }
 
-/* ------------------------------------------------------ lines, byte by byte */
+/* ------------------------------------------------------------------ lines */
 
 /*
  * Those that give a stage take in bytes, at least one in the stage they are

@@ -22,9 +22,9 @@ struct kind {
 };
 
 #define C(size) {TEXT, size, NULL}
-#define C_FREE {TEXT, 255, NULL}
+#define C_255 {TEXT, 255, NULL}
 #define N(size) {DIGITS, size, NULL}
-#define N_FREE {DIGITS, 0, NULL}
+#define N_ANY {DIGITS, 0, NULL}
 #define D(decimals) {DECIMALS, decimals, NULL}
 #define DT {DATE, 8, NULL}
 #define SAYS(size, text) {FIXED, size, text}
@@ -33,12 +33,12 @@ static const struct kind opening[] = {{MARK, 1, NULL}};
 static const struct kind closing[] = {{COUNT, 0, NULL}};
 
 static const struct kind kinds_0000[] = {
-    SAYS(4, "LFPD"), DT, DT, C_FREE, N(14), C(2), C_FREE, N(7), C_FREE, C(0),
-    C(9), N(4), N(1), N(2), SAYS(6, "Brasil"), C_FREE, N(11), N(11), C(0),
+    SAYS(4, "LFPD"), DT, DT, C_255, N(14), C(2), C_255, N(7), C_255, C(0),
+    C(9), N(4), N(1), N(2), SAYS(6, "Brasil"), C_255, N(11), N(11), C(0),
 };
 static const struct kind kinds_0005[] = {
-    C_FREE, N(3), N(11), N(8), C_FREE, C_FREE, C_FREE, C_FREE, N(8), N_FREE,
-    C_FREE, C_FREE, C_FREE,
+    C_255, N(3), N(11), N(8), C_255, C_255, C_255, C_255, N(8), N_ANY,
+    C_255, C_255, C_255,
 };
 static const struct kind kinds_0025[] = {C(5), C(5)};
 static const struct kind kinds_0030[] = {
@@ -46,62 +46,62 @@ static const struct kind kinds_0030[] = {
     N(1), N(1), N(1), N(1), N(1), N(1), N(1),
 };
 static const struct kind kinds_0100[] = {
-    C_FREE, N(3), N(14), N(11), C(10), N(8), C_FREE, C_FREE, C_FREE, C_FREE,
-    C(2), N(7), N(8), N_FREE, C_FREE, C_FREE, C_FREE,
+    C_255, N(3), N(14), N(11), C(10), N(8), C_255, C_255, C_255, C_255,
+    C(2), N(7), N(8), N_ANY, C_255, C_255, C_255,
 };
 static const struct kind kinds_0150[] = {
-    C_FREE, C_FREE, N(5), N(14), N(11), C(0), C(2), C_FREE, C_FREE, N(7),
-    C_FREE, C(9),
+    C_255, C_255, N(5), N(14), N(11), C(0), C(2), C_255, C_255, N(7),
+    C_255, C(9),
 };
 static const struct kind kinds_0175[] = {
-    N(8), C_FREE, C_FREE, C_FREE, C_FREE, N(8), N_FREE, C_FREE, C_FREE,
+    N(8), C_255, C_255, C_255, C_255, N(8), N_ANY, C_255, C_255,
 };
-static const struct kind kinds_0200[] = {C_FREE, C_FREE, N(2), N(4)};
-static const struct kind kinds_0205[] = {C_FREE, C_FREE, DT, DT};
+static const struct kind kinds_0200[] = {C_255, C_255, N(2), N(4)};
+static const struct kind kinds_0205[] = {C_255, C_255, DT, DT};
 static const struct kind kinds_0210[] = {
-    C_FREE, C_FREE, D(6), C_FREE, DT, DT, N_FREE, D(6),
+    C_255, C_255, D(6), C_255, DT, DT, N_ANY, D(6),
 };
-static const struct kind kinds_0215[] = {C_FREE, DT, DT};
-static const struct kind kinds_0400[] = {C_FREE, C_FREE, C(4)};
-static const struct kind kinds_0450[] = {C_FREE, C(65536)};
-static const struct kind kinds_0455[] = {C_FREE};
+static const struct kind kinds_0215[] = {C_255, DT, DT};
+static const struct kind kinds_0400[] = {C_255, C_255, C(4)};
+static const struct kind kinds_0450[] = {C_255, C(65536)};
+static const struct kind kinds_0455[] = {C_255};
 static const struct kind kinds_0460[] = {
-    C_FREE, C_FREE, C(2), N(7), N(6), C_FREE, D(2), DT, D(2), D(2),
-    D(2), D(2), D(2), DT, C_FREE,
+    C_255, C_255, C(2), N(7), N(6), C_255, D(2), DT, D(2), D(2),
+    D(2), D(2), D(2), DT, C_255,
 };
 static const struct kind kinds_0465[] = {
-    N(1), N(1), N(14), N(11), C(2), C_FREE, N(7), C_FREE, C(2), N(2),
-    C_FREE, N_FREE, C(45), N_FREE, DT, D(2), D(2), D(2), D(2), D(2),
+    N(1), N(1), N(14), N(11), C(2), C_255, N(7), C_255, C(2), N(2),
+    C_255, N_ANY, C(45), N_ANY, DT, D(2), D(2), D(2), D(2), D(2),
     D(2), D(2), D(2),
 };
 static const struct kind kinds_0470[] = {
-    C(2), N_FREE, C(20), N_FREE, N_FREE, N_FREE, DT, D(2), D(2), D(2),
+    C(2), N_ANY, C(20), N_ANY, N_ANY, N_ANY, DT, D(2), D(2), D(2),
 };
 
 static const struct kind kinds_C020[] = {
-    N(1), N(1), C_FREE, C(2), N(2), C_FREE, N_FREE, C(45), DT, DT,
-    C_FREE, N(1), D(2), D(2), D(2), D(2), D(2), D(2), D(2), D(2),
-    D(2), D(2), D(2), D(2), D(2), D(2), C_FREE,
+    N(1), N(1), C_255, C(2), N(2), C_255, N_ANY, C(45), DT, DT,
+    C_255, N(1), D(2), D(2), D(2), D(2), D(2), D(2), D(2), D(2),
+    D(2), D(2), D(2), D(2), D(2), D(2), C_255,
 };
 static const struct kind kinds_C040[] = {N(7), D(2), D(2), D(2), D(2)};
 static const struct kind kinds_C300[] = {
-    N_FREE, C_FREE, C_FREE, D(6), D(6), D(2), D(2), D(2), N(8), N(4),
+    N_ANY, C_255, C_255, D(6), D(6), D(2), D(2), D(2), N(8), N(4),
     N(4), D(2), D(2), D(2), D(2), D(2), D(2), D(2), D(2), D(2),
 };
 /* No sheet gives C305. */
-static const struct kind kinds_C305[] = {C_FREE};
+static const struct kind kinds_C305[] = {C_255};
 /* The sheet has a fifth field, VL_ISS_I. */
 static const struct kind kinds_C310[] = {N(2), D(2), D(2)};
 static const struct kind kinds_C550[] = {
-    N(11), N(14), C(2), N(2), C_FREE, N_FREE, N_FREE, DT, C(4), D(2),
-    D(2), D(2), D(2), D(2), D(2), C_FREE,
+    N(11), N(14), C(2), N(2), C_255, N_ANY, N_ANY, DT, C(4), D(2),
+    D(2), D(2), D(2), D(2), D(2), C_255,
 };
 static const struct kind kinds_C560[] = {
-    N_FREE, C_FREE, C_FREE, D(6), D(6), D(2), D(2), D(2), N(4), N(4),
+    N_ANY, C_255, C_255, D(6), D(6), D(2), D(2), D(2), N(4), N(4),
     D(2), D(2), D(2),
 };
 static const struct kind kinds_C600[] = {
-    N(11), N(14), C(2), N(2), N_FREE, C(20), N_FREE, N_FREE, N_FREE, DT,
+    N(11), N(14), C(2), N(2), N_ANY, C(20), N_ANY, N_ANY, N_ANY, DT,
     C(4), D(2), D(2), D(2), D(2), D(2), D(2), D(2), D(2), D(2),
     D(2),
 };
@@ -109,61 +109,61 @@ static const struct kind kinds_C605[] = {
     D(2), D(2), D(2), D(2), D(2), D(2), D(2),
 };
 static const struct kind kinds_C610[] = {
-    N_FREE, C_FREE, C_FREE, D(6), D(6), D(2), D(2), D(2), N(4), N(4),
+    N_ANY, C_255, C_255, D(6), D(6), D(2), D(2), D(2), N(4), N(4),
     D(2), D(2), D(2), D(2), D(2), D(2),
 };
 static const struct kind kinds_C615[] = {D(2), D(2), D(2), D(2), D(2)};
 
-static const struct kind kinds_E003[] = {C(2), C(4), N_FREE, N_FREE};
+static const struct kind kinds_E003[] = {C(2), C(4), N_ANY, N_ANY};
 static const struct kind kinds_E020[] = {
-    N(1), N(1), C_FREE, C(2), N(2), C_FREE, N_FREE, C(45), DT, DT,
-    C_FREE, C(4), C_FREE, N(1), D(2), D(2), D(2), D(2), D(2), D(2),
-    D(2), D(2), D(2), D(2), D(2), D(2), D(2), D(2), C_FREE,
+    N(1), N(1), C_255, C(2), N(2), C_255, N_ANY, C(45), DT, DT,
+    C_255, C(4), C_255, N(1), D(2), D(2), D(2), D(2), D(2), D(2),
+    D(2), D(2), D(2), D(2), D(2), D(2), D(2), D(2), C_255,
 };
 static const struct kind kinds_E025[] = {
     D(2), D(2), N(4), D(2), D(2), D(2), D(2), D(2), D(2), D(2),
     D(2), D(2), D(2), D(2), N(1), N(1),
 };
 static const struct kind kinds_E050[] = {
-    C(2), N_FREE, C_FREE, N_FREE, N_FREE, N_FREE, DT, C(4), C_FREE, D(2),
-    D(2), D(2), D(2), D(2), C_FREE,
+    C(2), N_ANY, C_255, N_ANY, N_ANY, N_ANY, DT, C(4), C_255, D(2),
+    D(2), D(2), D(2), D(2), C_255,
 };
 static const struct kind kinds_E055[] = {
     D(2), N(4), D(2), D(2), D(2), D(2), D(2), N(1),
 };
 static const struct kind kinds_E060[] = {
-    C(2), N_FREE, C(20), N_FREE, N_FREE, DT, N_FREE, N_FREE, D(2), D(2),
+    C(2), N_ANY, C(20), N_ANY, N_ANY, DT, N_ANY, N_ANY, D(2), D(2),
     D(2), D(2), D(2), D(2), D(2), D(2), D(2), D(2), D(2), D(2),
-    D(2), C_FREE,
+    D(2), C_255,
 };
 static const struct kind kinds_E065[] = {N(4), D(2), D(2), D(2), N(1)};
 static const struct kind kinds_E080[] = {
-    N(1), C(2), N_FREE, DT, D(2), D(2), D(2), D(2), D(2), C(4),
-    C_FREE, D(2), D(2), D(2), D(2), D(2), N(1),
+    N(1), C(2), N_ANY, DT, D(2), D(2), D(2), D(2), D(2), C(4),
+    C_255, D(2), D(2), D(2), D(2), D(2), N(1),
 };
 static const struct kind kinds_E085[] = {
     D(2), D(2), N(4), D(2), D(2), D(2), D(2), D(2), N(1),
 };
 static const struct kind kinds_E100[] = {
-    N(1), N(1), C_FREE, N(7), C(2), N(2), N_FREE, C_FREE, N_FREE, N(2),
-    N_FREE, N_FREE, DT, DT, C(4), C_FREE, D(2), D(2), D(2), D(2),
-    D(2), D(2), D(2), C_FREE,
+    N(1), N(1), C_255, N(7), C(2), N(2), N_ANY, C_255, N_ANY, N(2),
+    N_ANY, N_ANY, DT, DT, C(4), C_255, D(2), D(2), D(2), D(2),
+    D(2), D(2), D(2), C_255,
 };
 static const struct kind kinds_E105[] = {
     D(2), D(2), N(4), D(2), D(2), D(2), D(2), D(2), D(2), N(1),
 };
 static const struct kind kinds_E120[] = {
-    N(1), N(1), C_FREE, N(7), C(2), N(2), C_FREE, N_FREE, N_FREE, C(45),
-    DT, DT, C(4), C_FREE, N(1), D(2), N(4), D(2), D(2), D(2),
-    D(2), D(2), D(2), C_FREE,
+    N(1), N(1), C_255, N(7), C(2), N(2), C_255, N_ANY, N_ANY, C(45),
+    DT, DT, C(4), C_255, N(1), D(2), N(4), D(2), D(2), D(2),
+    D(2), D(2), D(2), C_255,
 };
 static const struct kind kinds_E140[] = {
-    N(7), C(2), N_FREE, C_FREE, N_FREE, N_FREE, N_FREE, DT, C(4), C_FREE,
-    D(2), N(4), D(2), D(2), D(2), D(2), D(2), C_FREE,
+    N(7), C(2), N_ANY, C_255, N_ANY, N_ANY, N_ANY, DT, C(4), C_255,
+    D(2), N(4), D(2), D(2), D(2), D(2), D(2), C_255,
 };
 static const struct kind kinds_E300[] = {DT, DT};
 static const struct kind kinds_E305[] = {
-    N(1), N(1), DT, C(4), C_FREE, N_FREE, D(2), D(2), D(2), D(2),
+    N(1), N(1), DT, C(4), C_255, N_ANY, D(2), D(2), D(2), D(2),
     D(2), D(2), D(2), D(2), D(2), D(2), D(2), D(2), D(2), D(2),
     D(2), D(2),
 };
@@ -180,13 +180,13 @@ static const struct kind kinds_E340[] = {
     D(2), D(2), D(2),
 };
 static const struct kind kinds_E350[] = {
-    C(2), N(3), D(2), C_FREE, C_FREE, N(1), C_FREE, C_FREE, N_FREE,
+    C(2), N(3), D(2), C_255, C_255, N(1), C_255, C_255, N_ANY,
 };
 static const struct kind kinds_E360[] = {
-    C(2), N(3), N(6), C_FREE, D(2), DT, C_FREE, N(1), C_FREE, C_FREE,
+    C(2), N(3), N(6), C_255, D(2), DT, C_255, N(1), C_255, C_255,
 };
 /* The sheet has no fourth field. */
-static const struct kind kinds_E500[] = {DT, DT, C_FREE};
+static const struct kind kinds_E500[] = {DT, DT, C_255};
 static const struct kind kinds_E520[] = {D(2), N(4), D(2), D(2), D(2), D(2)};
 static const struct kind kinds_E525[] = {N(1), D(2), D(2), D(2), D(2), D(2)};
 static const struct kind kinds_E540[] = {
@@ -194,49 +194,49 @@ static const struct kind kinds_E540[] = {
     D(2), D(2), D(2), D(2), D(2),
 };
 static const struct kind kinds_E550[] = {
-    N(3), D(2), C(1), C_FREE, C_FREE, C_FREE,
+    N(3), D(2), C(1), C_255, C_255, C_255,
 };
 static const struct kind kinds_E560[] = {
-    C(4), N(6), N(4), D(2), DT, N(1), C_FREE, C_FREE, C_FREE,
+    C(4), N(6), N(4), D(2), DT, N(1), C_255, C_255, C_255,
 };
 
-static const struct kind kinds_F020[] = {N(1), DT, DT, C_FREE, C_FREE};
-static const struct kind kinds_F025[] = {C(2), N(7), N_FREE, DT, C_FREE};
-static const struct kind kinds_F030[] = {N(2), C(2), C_FREE, N_FREE, N_FREE};
+static const struct kind kinds_F020[] = {N(1), DT, DT, C_255, C_255};
+static const struct kind kinds_F025[] = {C(2), N(7), N_ANY, DT, C_255};
+static const struct kind kinds_F030[] = {N(2), C(2), C_255, N_ANY, N_ANY};
 static const struct kind kinds_F035[] = {
-    C(2), C_FREE, N_FREE, DT, N_FREE, N_FREE, N_FREE, N_FREE, C_FREE,
+    C(2), C_255, N_ANY, DT, N_ANY, N_ANY, N_ANY, N_ANY, C_255,
 };
 static const struct kind kinds_F200[] = {N(1), DT, DT};
-static const struct kind kinds_F205[] = {C_FREE, C_FREE, N(14), C_FREE, N(1)};
-static const struct kind kinds_F210[] = {C_FREE, C_FREE};
+static const struct kind kinds_F205[] = {C_255, C_255, N(14), C_255, N(1)};
+static const struct kind kinds_F210[] = {C_255, C_255};
 static const struct kind kinds_F215[] = {
     N(1), DT, D(3), D(3), D(3), D(3), D(3), D(3), D(3), D(3),
     D(2),
 };
 static const struct kind kinds_F220[] = {
-    C_FREE, D(3), D(3), D(3), D(3), D(3), D(3),
+    C_255, D(3), D(3), D(3), D(3), D(3), D(3),
 };
 static const struct kind kinds_F225[] = {
-    N(1), N(1), N(14), C(2), C_FREE, C(2), C_FREE, N_FREE, DT, D(2),
-    D(2), D(2), D(3), C_FREE,
+    N(1), N(1), N(14), C(2), C_255, C(2), C_255, N_ANY, DT, D(2),
+    D(2), D(2), D(3), C_255,
 };
-static const struct kind kinds_F230[] = {C_FREE, C_FREE, N_FREE, N_FREE, D(2)};
+static const struct kind kinds_F230[] = {C_255, C_255, N_ANY, N_ANY, D(2)};
 static const struct kind kinds_F250[] = {N(1), DT, DT};
 static const struct kind kinds_F255[] = {
-    DT, N(1), C_FREE, C(2), N(7), C_FREE, C_FREE, C_FREE, N(4), C_FREE,
-    C_FREE, C_FREE, D(2), N(1), DT, C_FREE, D(2), C_FREE,
+    DT, N(1), C_255, C(2), N(7), C_255, C_255, C_255, N(4), C_255,
+    C_255, C_255, D(2), N(1), DT, C_255, D(2), C_255,
 };
 
 static const struct kind kinds_G020[] = {N(1), DT, DT};
 static const struct kind kinds_G025[] = {
-    N(1), N(1), C(2), C_FREE, N_FREE, N_FREE, N_FREE, N_FREE, N_FREE, D(2),
+    N(1), N(1), C(2), C_255, N_ANY, N_ANY, N_ANY, N_ANY, N_ANY, D(2),
     D(2), D(2), D(2), D(2), D(2), D(2),
 };
 static const struct kind kinds_G030[] = {
-    C(2), N_FREE, N_FREE, N_FREE, N_FREE, N_FREE, D(2), D(2), D(2), D(2),
+    C(2), N_ANY, N_ANY, N_ANY, N_ANY, N_ANY, D(2), D(2), D(2), D(2),
 };
 static const struct kind kinds_G050[] = {
-    N(1), N(1), DT, C(4), N_FREE, D(2), D(2), D(2), D(2), D(2),
+    N(1), N(1), DT, C(4), N_ANY, D(2), D(2), D(2), D(2), D(2),
     D(2), D(2), D(2), D(2), D(2), D(2), D(2), D(2),
 };
 static const struct kind kinds_G400[] = {
@@ -252,7 +252,7 @@ static const struct kind kinds_G420[] = {
     D(2), D(2), D(2),
 };
 static const struct kind kinds_G430[] = {N(3), D(2)};
-static const struct kind kinds_G440[] = {C(2), N(3), N(6), C_FREE, D(2), DT};
+static const struct kind kinds_G440[] = {C(2), N(3), N(6), C_255, D(2), DT};
 static const struct kind kinds_G450[] = {
     N(1), D(2), D(2), D(2), D(2), D(2), D(2), D(2), D(2), D(2),
     D(2), D(2), D(2), D(2),
@@ -263,12 +263,12 @@ static const struct kind kinds_G460[] = {
 };
 
 static const struct kind kinds_H020[] = {
-    N(1), DT, D(2), D(2), D(2), D(2), D(2), D(2), D(2), C_FREE,
-    C_FREE,
+    N(1), DT, D(2), D(2), D(2), D(2), D(2), D(2), D(2), C_255,
+    C_255,
 };
 static const struct kind kinds_H030[] = {
-    N(1), C_FREE, N(1), N(8), C_FREE, C_FREE, D(6), D(6), D(2), D(2),
-    D(2), D(2), D(2), D(2), C_FREE,
+    N(1), C_255, N(1), N(8), C_255, C_255, D(6), D(6), D(2), D(2),
+    D(2), D(2), D(2), D(2), C_255,
 };
 static const struct kind kinds_H040[] = {N(1), D(2)};
 static const struct kind kinds_H050[] = {N(1), D(2)};
