@@ -34,7 +34,8 @@ fn candidates(kind: Kind) -> Vec<Vec<u8>> {
 }
 
 fn first_field(wanted: Kind) -> (usize, usize) {
-    let places = (0..rows().len())
-        .flat_map(|row| (2..=rows()[row].fields).map(move |field| (row, field)));
-    places.into_iter().find(|&(row, field)| kind(row, field) == wanted).expect("a field of each kind")
+    (0..rows().len())
+        .flat_map(|row| (2..=rows()[row].fields).map(move |field| (row, field)))
+        .find(|&(row, field)| kind(row, field) == wanted)
+        .expect("a field of each kind")
 }
