@@ -25,13 +25,13 @@ pub enum Feed {
 /// A file fed in a case, and what it is about.
 #[derive(Clone)]
 pub struct File {
-    pub kind: String,
+    pub about: String,
     pub bytes: Vec<u8>,
     pub feed: Feed,
 }
 
-pub fn file(kind: impl Into<String>, bytes: Vec<u8>) -> File {
-    File { kind: kind.into(), bytes, feed: Feed::AtLength }
+pub fn file(about: impl Into<String>, bytes: Vec<u8>) -> File {
+    File { about: about.into(), bytes, feed: Feed::AtLength }
 }
 
 /// Lines with CR LF after each.

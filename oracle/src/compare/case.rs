@@ -11,7 +11,7 @@ use crate::generate::Random;
 pub struct Case {
     pub number: usize,
     pub seed: u64,
-    pub kind: String,
+    pub about: String,
     pub commands: Vec<Command>,
 }
 
@@ -84,7 +84,7 @@ fn made_case(number: usize, seed: u64, file: File, mut random: Random, simple: b
     };
     let long_end = file.feed != Feed::Plainly && (!simple || random.percent(10));
     let commands = commands(&mut random, &file.bytes, rounds, long_end);
-    Case { number, seed, kind: format!("{}; {way}", file.kind), commands }
+    Case { number, seed, about: format!("{}; {way}", file.about), commands }
 }
 
 #[cfg(test)]
@@ -140,9 +140,9 @@ mod tests {
             "whole",
             "two pieces",
         ];
-        let kinds: Vec<String> = cases().map(|case| case.kind).collect();
+        let texts: Vec<String> = cases().map(|case| case.about).collect();
         for way in ways {
-            let count = kinds.iter().filter(|kind| kind.ends_with(&format!("; {way}"))).count();
+            let count = texts.iter().filter(|text| text.ends_with(&format!("; {way}"))).count();
             assert!(count > 50, "{way}: {count}");
         }
     }

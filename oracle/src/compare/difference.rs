@@ -27,7 +27,7 @@ impl Difference<'_> {
     pub fn print(&self, options: &Options) {
         let case = self.case;
         let saved = options.keep.join(format!("case-{}.commands", case.number));
-        println!("DIFFERENCE in case {}: {}", case.number, case.kind);
+        println!("DIFFERENCE in case {}: {}", case.number, case.about);
         println!("  seed of the case {:#018x}, saved as {}", case.seed, saved.display());
         let upto = case.number + 1;
         println!("  with all cases before it: --seed {} --cases {upto}", options.seed);
@@ -90,7 +90,7 @@ mod tests {
             Command::New,
             piece(3),
         ];
-        let case = Case { number: 0, seed: 0, kind: String::new(), commands };
+        let case = Case { number: 0, seed: 0, about: String::new(), commands };
         let texts = ["a", "b", "c", "d", "e"].map(String::from);
         let got = ["a", "b", "c", "x", "e"].map(String::from);
         let difference = Difference { case: &case, expected: &texts, got: &got };

@@ -75,8 +75,8 @@ fn field_values() -> Vec<File> {
     ];
     let with = |(line, field, value): (usize, usize, &[u8])| {
         let shown = value[..value.len().min(24)].escape_ascii();
-        let kind = format!("Base line {line} field {field}, {} bytes: {shown}", value.len());
-        file(kind, base_field(line, field, value))
+        let about = format!("Base line {line} field {field}, {} bytes: {shown}", value.len());
+        file(about, base_field(line, field, value))
     };
     values.map(with).to_vec()
 }

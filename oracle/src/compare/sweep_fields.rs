@@ -53,8 +53,8 @@ pub fn with_value(random: &mut Random, row: usize, field: usize, value: &[u8]) -
     let place = draft.places_of(code.as_bytes())[0];
     draft.lines[place].fields[field - 1] = value.to_vec();
     let shown = &value[..value.len().min(20)];
-    let kind = format!("{code} field {field}, {} bytes: {}", value.len(), shown.escape_ascii());
-    file(kind, draft.write())
+    let about = format!("{code} field {field}, {} bytes: {}", value.len(), shown.escape_ascii());
+    file(about, draft.write())
 }
 
 /// Lines of the row in which every field holds a value that stands.
@@ -84,7 +84,7 @@ mod tests {
     fn full_lines_stand() {
         for row in 0..rows().len() {
             for file in full_lines(&mut Random::from_seed(1), row) {
-                assert!(matches!(finish(&file.bytes), Final::Accepted { .. }), "{}", file.kind);
+                assert!(matches!(finish(&file.bytes), Final::Accepted { .. }), "{}", file.about);
             }
         }
     }

@@ -19,9 +19,9 @@ pub fn pair_files() -> Vec<File> {
 
 fn pair_file(before: &[String], first: &Row, second: &Row) -> File {
     let last = line_after(before, second);
-    let kind = format!("pair: {} after {}", second.code, first.code);
+    let about = format!("pair: {} after {}", second.code, first.code);
     // there are so many pairs that few of them can be fed at length
-    File { feed: Feed::MostlyShort, ..file(kind, written(&[before, &[last]].concat())) }
+    File { feed: Feed::MostlyShort, ..file(about, written(&[before, &[last]].concat())) }
 }
 
 /// The fewest lines that end with one of this row. `mark` is what it says
