@@ -1,6 +1,6 @@
 //! Values to try in a field of some kind, at both sides of its rules.
 
-use crate::generate::amounts::{bad_amounts, good_amounts};
+use crate::generate::amounts::{good_amounts, near_amounts, other_bad_amounts};
 use crate::kinds::{Kind, Role};
 
 /// Added to a length so that a width of 8 bits would take it for the right one.
@@ -8,9 +8,6 @@ const WRAP: usize = 256;
 
 /// Texts with a greater size have files of their own, being so long.
 const LONGEST_SWEPT: usize = 1000;
-
-/// How many of the bad amounts are tried at every field.
-const NEAR_AMOUNTS: usize = 5;
 
 pub struct Values {
     /// They stand. The first three are not too long for a line full of them.
@@ -33,9 +30,11 @@ pub fn values(kind: Kind) -> Values {
 }
 
 fn amounts(decimals: usize) -> Values {
-    let mut near = bad_amounts(decimals);
-    let others = near.split_off(NEAR_AMOUNTS);
-    Values { good: good_amounts(decimals), near, others }
+    Values {
+        good: good_amounts(decimals),
+        near: near_amounts(decimals),
+        others: other_bad_amounts(decimals),
+    }
 }
 
 fn numbers_of_size(size: usize) -> Values {

@@ -18,17 +18,25 @@ pub fn good_amounts(decimals: usize) -> Vec<Vec<u8>> {
     amounts.map(String::into_bytes).to_vec()
 }
 
-/// Amounts that do not stand, none of them empty. The first of them are the
-/// nearest to good ones.
-pub fn bad_amounts(decimals: usize) -> Vec<Vec<u8>> {
+/// Amounts that just do not stand: a digit too few or too many, no comma, a
+/// point in its stead.
+pub fn near_amounts(decimals: usize) -> Vec<Vec<u8>> {
     let right = "1".repeat(decimals);
-    let less = &right[1..];
     let amounts = [
-        format!("1,{less}"),
+        format!("1,{}", &right[1..]),
         format!("1,{right}1"),
         "1".into(),
         format!(",{right}"),
         format!("1.{right}"),
+    ];
+    amounts.map(String::into_bytes).to_vec()
+}
+
+/// More amounts that do not stand, none of them empty.
+pub fn other_bad_amounts(decimals: usize) -> Vec<Vec<u8>> {
+    let right = "1".repeat(decimals);
+    let less = &right[1..];
+    let amounts = [
         format!("-1,{right}"),
         format!("1,{less}x"),
         "1,".into(),
@@ -62,7 +70,10 @@ pub fn bad_amounts(decimals: usize) -> Vec<Vec<u8>> {
 pub fn edge_amount(random: &mut Random, decimals: usize) -> Vec<u8> {
     match random.below(10) {
         0..=2 => random.pick(&good_amounts(decimals)).clone(),
-        3..=6 => random.pick(&bad_amounts(decimals)).clone(),
+        3..=6 => {
+            let bad = [near_amounts(decimals), other_bad_amounts(decimals)].concat();
+            random.pick(&bad).clone()
+        }
         _ => {
             let whole = random.between(0, 4);
             let fraction = random.between(decimals.saturating_sub(1), decimals + 1);
@@ -81,7 +92,8 @@ mod tests {
         for decimals in [2, 3, 6] {
             let stands = |amount: &Vec<u8>| is_number(amount, Some(decimals));
             assert!(good_amounts(decimals).iter().all(stands), "{decimals}");
-            assert!(!bad_amounts(decimals).iter().any(stands), "{decimals}");
+            assert!(!near_amounts(decimals).iter().any(stands), "{decimals}");
+            assert!(!other_bad_amounts(decimals).iter().any(stands), "{decimals}");
         }
     }
 
