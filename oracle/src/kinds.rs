@@ -102,10 +102,15 @@ impl fmt::Display for Kind {
 /// Every kind there is, with the number of its fields.
 pub fn distinct_kinds() -> BTreeMap<Kind, usize> {
     let mut kinds = BTreeMap::new();
-    for field in (0..rows().len()).flat_map(fields) {
-        *kinds.entry(field.kind).or_default() += 1;
+    for (row, field) in places() {
+        *kinds.entry(kind(row, field)).or_default() += 1;
     }
     kinds
+}
+
+/// Row and number of every field after the first.
+pub fn places() -> impl Iterator<Item = (usize, usize)> {
+    (0..rows().len()).flat_map(|row| (2..=rows()[row].fields).map(move |field| (row, field)))
 }
 
 /// The kind of a field, counted from 1; not for field 1, which is the code.
@@ -168,8 +173,7 @@ mod tests {
     }
 
     fn all_kinds() -> impl Iterator<Item = (&'static Row, usize, Kind)> {
-        let of_row = |row| fields(row).iter().enumerate().map(move |(at, field)| (row, at + 2, field));
-        (0..98).flat_map(of_row).map(|(row, at, field)| (&rows()[row], at, field.kind))
+        places().map(|(row, field)| (&rows()[row], field, kind(row, field)))
     }
 
     #[test]

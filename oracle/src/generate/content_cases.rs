@@ -5,7 +5,7 @@ use super::edge_values::edge_value;
 use super::fill::{good_line, Fullness};
 use super::random::Random;
 use super::tree::{good_file_with, TIGHT};
-use crate::kinds::{kind, Kind};
+use crate::kinds::{kind, places, Kind};
 use crate::rows::rows;
 use std::collections::BTreeMap;
 
@@ -52,11 +52,8 @@ pub fn opening_mark(random: &mut Random, room: usize) -> Vec<u8> {
 
 /// Row and field of every field after the code, but for marks of openings and counts.
 pub fn edge_fields() -> Vec<(usize, usize)> {
-    let plain = |row: &usize| !rows()[*row].has_count() && !rows()[*row].is_opening();
-    (0..rows().len())
-        .filter(plain)
-        .flat_map(|row| (2..=rows()[row].fields).map(move |field| (row, field)))
-        .collect()
+    let has_edges = |row: usize| !rows()[row].has_count() && !rows()[row].is_opening();
+    places().filter(|&(row, _)| has_edges(row)).collect()
 }
 
 fn with_full_line(random: &mut Random, row: usize) -> Draft {
