@@ -10,11 +10,12 @@ const WRAP: usize = 256;
 const LONGEST_SWEPT: usize = 1000;
 
 pub struct Values {
-    /// They stand. The first three are not too long for a line full of them.
+    /// The field stands with them. The first three are not too long for a line
+    /// full of them. A count has none, as it hangs on the file which is true.
     pub good: Vec<Vec<u8>>,
-    /// They are refused, and tried at every field.
+    /// The field is refused with them; tried at every field of the kind.
     pub near: Vec<Vec<u8>>,
-    /// On either side, tried at a few fields of the kind.
+    /// On either side; most fields are tried with one of them only.
     pub others: Vec<Vec<u8>>,
 }
 
@@ -22,6 +23,8 @@ pub fn values(kind: Kind) -> Values {
     match (kind.role, kind.decimals, kind.size) {
         (Role::Fixed(text), ..) => fixed_texts(text.as_bytes()),
         (Role::Date, ..) => dates(),
+        (Role::Mark, ..) => marks(),
+        (Role::Count, ..) => counts(),
         _ if !kind.numeric => texts(kind.longest_text()),
         (_, Some(decimals), _) => amounts(decimals),
         (_, _, Some(size)) => numbers_of_size(size),
@@ -99,8 +102,22 @@ fn texts(most: usize) -> Values {
     Values { good, near, others }
 }
 
+fn bytes(texts: &[&str]) -> Vec<Vec<u8>> {
+    texts.iter().map(|text| text.as_bytes().to_vec()).collect()
+}
+
+fn marks() -> Values {
+    let near = bytes(&["", "2", "00", "01", "x"]);
+    let others = bytes(&["9", "10", "11", "/", ":", " ", "1 ", "-1"]);
+    Values { good: bytes(&["0", "1"]), near, others }
+}
+
+/// Digits that are untrue have files of their own.
+fn counts() -> Values {
+    Values { good: Vec::new(), near: bytes(&["", "x", "1x"]), others: Vec::new() }
+}
+
 fn dates() -> Values {
-    let bytes = |dates: &[&str]| dates.iter().map(|date| date.as_bytes().to_vec()).collect();
     let good = bytes(&["29022012", "31122099", "01011900"]);
     let near = bytes(&["2902201", "290220120", "2902201x", "29022011", "31042012"]);
     let mut others = numbers_of_size(8).others;

@@ -38,10 +38,10 @@ fn tried_values(values: Values, all: bool, turn: usize) -> Vec<Vec<u8>> {
 }
 
 fn mark_files(random: &mut Random) -> Vec<File> {
-    let marks = ["", "0", "1", "2", "9", "00", "01", "10", "11", "/", ":", "x", " ", "1 ", "-1"];
     let mut files = Vec::new();
     for row in (0..rows().len()).filter(|&row| rows()[row].is_opening()) {
-        files.extend(marks.iter().map(|mark| with_value(random, row, 2, mark.as_bytes())));
+        let marks = tried_values(values(kind(row, 2)), true, 0);
+        files.extend(marks.iter().map(|mark| with_value(random, row, 2, mark)));
     }
     files
 }
@@ -78,6 +78,7 @@ fn full_lines(random: &mut Random, row: usize) -> Vec<File> {
 #[cfg(test)]
 mod tests {
     use super::*;
+    use crate::kinds::places;
     use crate::{finish, Final};
 
     #[test]
@@ -92,11 +93,12 @@ mod tests {
     #[test]
     fn near_values_are_refused_and_good_ones_stand() {
         let mut random = Random::from_seed(1);
-        for (row, field) in edge_fields() {
+        for (row, field) in places() {
             let Values { good, near, .. } = values(kind(row, field));
             let mut is_refused = |value: &Vec<u8>| {
                 let bytes = with_value(&mut random, row, field, value).bytes;
-                matches!(finish(&bytes), Final::Refused { .. })
+                // a mark that stands may still be refused by 5 in the next line
+                matches!(finish(&bytes), Final::Refused { number: 10..=13, .. })
             };
             assert!(near.iter().all(&mut is_refused), "{} {field}", rows()[row].code);
             assert!(!good.iter().any(&mut is_refused), "{} {field}", rows()[row].code);

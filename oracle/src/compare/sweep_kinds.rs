@@ -1,41 +1,52 @@
 //! For each kind of field, one file in which it stands and one for each
 //! number that it can be refused by, so that every run has them.
 
-use super::base::{Feed, File};
+use super::base::{file, Feed, File};
 use super::field_values::values;
-use super::kind_tally::{met_in_file, Met, BY_KIND};
+use super::kind_tally::{met_in_file, BY_KIND};
 use super::sweep_fields::with_value;
+use crate::generate::tree::{good_file_with, TIGHT};
 use crate::generate::Random;
-use crate::kinds::{distinct_kinds, kind, Kind};
+use crate::kinds::{distinct_kinds, kind, places, Kind, Role};
 use crate::rows::rows;
 
 pub fn kind_files(random: &mut Random) -> Vec<File> {
     distinct_kinds().into_keys().flat_map(|kind| files_of_kind(random, kind)).collect()
 }
 
-fn files_of_kind(random: &mut Random, kind: Kind) -> Vec<File> {
-    let (row, field) = first_field(kind);
-    let files: Vec<File> =
-        candidates(kind).iter().map(|value| with_value(random, row, field, value)).collect();
-    let met: Vec<Met> = files.iter().map(|file| met_in_file(&file.bytes)).collect();
-    let stands = met.iter().position(|met| met.stood.contains(&kind));
-    let refused = BY_KIND.map(|number| met.iter().position(|met| met.refused == Some((number, kind))));
-    let places = [stands].into_iter().chain(refused).flatten();
-    places.map(|place| File { feed: Feed::Plainly, ..files[place].clone() }).collect()
-}
-
-fn candidates(kind: Kind) -> Vec<Vec<u8>> {
-    let values = values(kind);
-    let mut candidates = [values.good, values.near, values.others].concat();
-    if !kind.numeric {
-        candidates.push(vec![b'n'; kind.longest_text() + 1]);
+/// The files are about the first field of the kind.
+fn files_of_kind(random: &mut Random, wanted: Kind) -> Vec<File> {
+    let is_wanted = |&(row, field): &(usize, usize)| kind(row, field) == wanted;
+    let (row, field) = places().find(is_wanted).expect("a field of each kind");
+    let mut files = standing_files(random, row, field);
+    for number in BY_KIND.into_iter().filter(|&number| wanted.can_be_refused_by(number)) {
+        files.push(refused_file(random, row, field, number));
     }
-    candidates
+    files.into_iter().map(|file| File { feed: Feed::Plainly, ..file }).collect()
 }
 
-fn first_field(wanted: Kind) -> (usize, usize) {
-    (0..rows().len())
-        .flat_map(|row| (2..=rows()[row].fields).map(move |field| (row, field)))
-        .find(|&(row, field)| kind(row, field) == wanted)
-        .expect("a field of each kind")
+fn standing_files(random: &mut Random, row: usize, field: usize) -> Vec<File> {
+    let kind = kind(row, field);
+    if kind.role == Role::Count {
+        let bytes = good_file_with(random, TIGHT, row).write();
+        return vec![file(format!("{} with its true count", rows()[row].code), bytes)];
+    }
+    let good = values(kind).good;
+    let filled = good.iter().find(|value| !value.is_empty());
+    filled.into_iter().map(|value| with_value(random, row, field, value)).collect()
+}
+
+fn refused_file(random: &mut Random, row: usize, field: usize, number: u8) -> File {
+    let kind = kind(row, field);
+    let values = values(kind);
+    let mut tried = [values.near, values.others].concat();
+    if !kind.numeric {
+        // the longest texts are not among the values
+        tried.push(vec![b'n'; kind.longest_text() + 1]);
+    }
+    tried
+        .iter()
+        .map(|value| with_value(random, row, field, value))
+        .find(|file| met_in_file(&file.bytes).refused == Some((number, kind)))
+        .expect("a value refused by each number")
 }
