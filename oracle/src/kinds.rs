@@ -64,6 +64,11 @@ impl Kind {
         self.numeric || self.size != Some(0)
     }
 
+    /// Whether it stands with nothing in it.
+    pub fn may_be_empty(&self) -> bool {
+        matches!(self.role, Role::Plain | Role::Date)
+    }
+
     /// Whether it can be refused by this number of those that go by what a
     /// field holds.
     pub fn can_be_refused_by(&self, number: u8) -> bool {

@@ -11,7 +11,8 @@ const LONGEST_SWEPT: usize = 1000;
 
 pub struct Values {
     /// The field stands with them. The first three are not too long for a line
-    /// full of them. A count has none, as it hangs on the file which is true.
+    /// full of them, the last is empty where that stands. A count has none, as
+    /// it hangs on the file which is true.
     pub good: Vec<Vec<u8>>,
     /// The field is refused with them; tried at every field of the kind.
     pub near: Vec<Vec<u8>>,
@@ -20,7 +21,7 @@ pub struct Values {
 }
 
 pub fn values(kind: Kind) -> Values {
-    match (kind.role, kind.decimals, kind.size) {
+    let mut values = match (kind.role, kind.decimals, kind.size) {
         (Role::Fixed(text), ..) => fixed_texts(text.as_bytes()),
         (Role::Date, ..) => dates(),
         (Role::Mark, ..) => marks(),
@@ -29,7 +30,11 @@ pub fn values(kind: Kind) -> Values {
         (_, Some(decimals), _) => amounts(decimals),
         (_, _, Some(size)) => numbers_of_size(size),
         _ => numbers(),
+    };
+    if kind.may_be_empty() {
+        values.good.push(Vec::new());
     }
+    values
 }
 
 fn amounts(decimals: usize) -> Values {
@@ -93,6 +98,7 @@ fn texts(most: usize) -> Values {
     let mut good = vec![vec![b'n'; most], vec![255; most], vec![b'n'; most.min(1)]];
     good.push(vec![b'n'; most.saturating_sub(1)]);
     good.extend([127, 128, 159, 160].map(|byte| vec![byte; most]));
+    good.retain(|text| !text.is_empty());
     let mut near = vec![vec![b'n'; most + 1]];
     if most < 255 {
         near.push(vec![b'n'; 255]);

@@ -1,5 +1,5 @@
-//! What comes up of each kind of field: in how many cases one stood, and in
-//! how many one was refused by 10, 11 or 12.
+//! What comes up of each kind of field: in how many cases one stood filled, in
+//! how many one stood empty, and in how many one was refused by 10, 11 or 12.
 
 use super::command::Command;
 use crate::kinds::{distinct_kinds, kind, Kind};
@@ -14,7 +14,9 @@ pub const BY_KIND: [u8; 3] = [10, 11, 12];
 #[derive(Default)]
 pub struct Met {
     /// Kinds of filled fields that were judged and not refused.
-    pub stood: BTreeSet<Kind>,
+    pub filled: BTreeSet<Kind>,
+    /// Kinds of empty fields that were judged and not refused.
+    pub empty: BTreeSet<Kind>,
     /// The refusal, if it is one of these.
     pub refused: Option<(u8, Kind)>,
 }
@@ -29,34 +31,47 @@ pub fn met_in_case(commands: &[Command]) -> Met {
 
 pub fn met_in_file(bytes: &[u8]) -> Met {
     let Verdict::Refused { number, field, bytes: judged, .. } = verdict(bytes) else {
-        return Met { stood: filled_kinds(bytes), refused: None };
+        return met_standing(bytes);
     };
     let before = &bytes[..judged as usize - 1];
     let line = before.split(|&byte| byte == LF).next_back();
     let row = line.and_then(|line| row_with_code(line.get(1..5)?));
     let refused = row.filter(|_| BY_KIND.contains(&number));
     let refused = refused.map(|row| (number, kind(row, field as usize)));
-    Met { stood: filled_kinds(before), refused }
+    Met { refused, ..met_standing(before) }
 }
 
-/// Kinds of the fields after the codes that are not empty and have ended.
-fn filled_kinds(bytes: &[u8]) -> BTreeSet<Kind> {
-    bytes.split(|&byte| byte == LF).flat_map(kinds_in_line).collect()
+/// What is met in bytes of which none is refused.
+fn met_standing(bytes: &[u8]) -> Met {
+    let mut met = Met::default();
+    for line in bytes.split(|&byte| byte == LF) {
+        met.add_line(line);
+    }
+    met
 }
 
-fn kinds_in_line(line: &[u8]) -> Vec<Kind> {
-    // the first part is what stands before the first bar, the last has not ended
-    let parts: Vec<&[u8]> = line.split(|&byte| byte == BAR).collect();
-    let Some(row) = parts.get(1).and_then(|code| row_with_code(code)) else {
-        return Vec::new();
-    };
-    let ended = (parts.len() - 1).min(rows()[row].fields + 1);
-    (2..ended).filter(|&field| !parts[field].is_empty()).map(|field| kind(row, field)).collect()
+impl Met {
+    /// Adds the fields after the code that have ended.
+    fn add_line(&mut self, line: &[u8]) {
+        // the first part is what stands before the first bar, the last has not ended
+        let parts: Vec<&[u8]> = line.split(|&byte| byte == BAR).collect();
+        let Some(row) = parts.get(1).and_then(|code| row_with_code(code)) else {
+            return;
+        };
+        let ended = (parts.len() - 1).min(rows()[row].fields + 1);
+        for field in 2..ended {
+            match parts[field].is_empty() {
+                true => self.empty.insert(kind(row, field)),
+                false => self.filled.insert(kind(row, field)),
+            };
+        }
+    }
 }
 
 #[derive(Clone, Default)]
 struct Cases {
-    stood: usize,
+    filled: usize,
+    empty: usize,
     /// In the order of `BY_KIND`.
     refused: [usize; BY_KIND.len()],
 }
@@ -68,8 +83,11 @@ pub struct KindTally {
 
 impl KindTally {
     pub fn add(&mut self, met: Met) {
-        for kind in met.stood {
-            self.kinds.entry(kind).or_default().stood += 1;
+        for kind in met.filled {
+            self.kinds.entry(kind).or_default().filled += 1;
+        }
+        for kind in met.empty {
+            self.kinds.entry(kind).or_default().empty += 1;
         }
         if let Some((number, kind)) = met.refused {
             let place = BY_KIND.iter().position(|&by| by == number).expect("a number by kind");
@@ -85,8 +103,11 @@ impl KindTally {
     fn missing_of(&self, kind: &Kind) -> Vec<String> {
         let cases = self.cases_of(kind);
         let mut missing = Vec::new();
-        if kind.can_be_filled() && cases.stood == 0 {
+        if kind.can_be_filled() && cases.filled == 0 {
             missing.push(format!("{kind} never stood"));
+        }
+        if kind.may_be_empty() && cases.empty == 0 {
+            missing.push(format!("{kind} never stood empty"));
         }
         for (number, count) in BY_KIND.into_iter().zip(cases.refused) {
             if kind.can_be_refused_by(number) && count == 0 {
@@ -102,10 +123,12 @@ impl KindTally {
 
     pub fn print(&self) {
         println!("kinds of fields, in cases:");
-        println!("  {:20}{:>7}{:>8}{:>8}{:>8}{:>8}", "", "fields", "stood", "by 10", "by 11", "by 12");
+        let columns = ["stood", "empty", "by 10", "by 11", "by 12"];
+        println!("  {:20}{:>7}{}", "", "fields", columns.map(|name| format!("{name:>8}")).concat());
         for (kind, fields) in distinct_kinds() {
             let cases = self.cases_of(&kind);
-            let mut columns = shown(cases.stood, kind.can_be_filled());
+            let mut columns = shown(cases.filled, kind.can_be_filled());
+            columns += &shown(cases.empty, kind.may_be_empty());
             for (number, count) in BY_KIND.into_iter().zip(cases.refused) {
                 columns += &shown(count, kind.can_be_refused_by(number));
             }
@@ -128,22 +151,24 @@ mod tests {
     use crate::compare::base::{base, base_field, base_until};
     use crate::generate::small_case;
 
-    fn stood(met: &Met) -> Vec<String> {
-        met.stood.iter().map(Kind::to_string).collect()
+    fn names(kinds: &BTreeSet<Kind>) -> Vec<String> {
+        kinds.iter().map(Kind::to_string).collect()
     }
 
     #[test]
     fn kinds_of_base() {
         let met = met_in_file(&base());
         let kinds = ["C at most 255", "LFPD", "Brasil", "count", "mark", "date"];
-        assert_eq!(stood(&met), kinds);
+        assert_eq!(names(&met.filled), kinds);
+        assert_eq!(met.empty.len(), 10);
+        assert!(names(&met.empty).contains(&"N of 14 digits".to_string()));
         assert!(met.refused.is_none());
     }
 
     #[test]
     fn the_refused_field_did_not_stand() {
         let met = met_in_file(&base_field(1, 3, b"0101201x"));
-        assert_eq!(stood(&met), ["LFPD"]);
+        assert_eq!(names(&met.filled), ["LFPD"]);
         assert_eq!(met.refused.map(|(number, kind)| (number, kind.to_string())), Some((10, "date".into())));
         // 13 and the rules of place and shape do not go by kind
         assert!(met_in_file(&base_field(3, 2, b"2")).refused.is_none());
@@ -158,7 +183,7 @@ mod tests {
             [Command::New, piece(&file), Command::Finish, Command::New, piece(&file[..12])];
         let late = [&commands[..], &[Command::Finish, piece(&file[12..])]].concat();
         for commands in [&commands[..], &late] {
-            assert_eq!(stood(&met_in_case(commands)), ["LFPD"]);
+            assert_eq!(names(&met_in_case(commands).filled), ["LFPD"]);
         }
     }
 
@@ -177,12 +202,16 @@ mod tests {
         let mut tally = KindTally::default();
         let all = tally.missing();
         assert!(all.contains(&"mark never refused by 12".to_string()));
-        assert!(!all.iter().any(|text| text.starts_with("C at most 0 never stood")));
+        // it cannot be filled, nor a mark be empty
+        assert!(!all.contains(&"C at most 0 never stood".to_string()));
+        assert!(all.contains(&"C at most 0 never stood empty".to_string()));
+        assert!(!all.contains(&"mark never stood empty".to_string()));
         tally.add(met_in_file(&base_field(2, 2, b"2")));
         let missing = tally.missing();
         assert!(!missing.contains(&"mark never refused by 12".to_string()));
         assert!(missing.contains(&"mark never stood".to_string()));
-        // LFPD, Brasil, a text and two dates stood, the mark was refused
-        assert_eq!(missing.len(), all.len() - 5);
+        // LFPD, Brasil, a text and two dates stood, the mark was refused, and
+        // fields of ten kinds stood empty
+        assert_eq!(missing.len(), all.len() - 15);
     }
 }

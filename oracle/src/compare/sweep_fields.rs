@@ -57,7 +57,8 @@ pub fn with_value(random: &mut Random, row: usize, field: usize, value: &[u8]) -
     file(about, draft.write())
 }
 
-/// Lines of the row in which every field holds a value that stands.
+/// Lines of the row in which every field holds a value that stands, filled
+/// where it can be.
 fn full_lines(random: &mut Random, row: usize) -> Vec<File> {
     let fields: Vec<usize> =
         edge_fields().into_iter().filter(|place| place.0 == row).map(|place| place.1).collect();

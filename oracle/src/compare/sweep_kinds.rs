@@ -1,5 +1,6 @@
-//! For each kind of field, one file in which it stands and one for each
-//! number that it can be refused by, so that every run has them.
+//! For each kind of field, one file in which it stands filled, one in which
+//! it stands empty, and one for each number that it can be refused by, so far
+//! as each can be.
 
 use super::base::{file, Feed, File};
 use super::field_values::values;
@@ -33,7 +34,8 @@ fn standing_files(random: &mut Random, row: usize, field: usize) -> Vec<File> {
     }
     let good = values(kind).good;
     let filled = good.iter().find(|value| !value.is_empty());
-    filled.into_iter().map(|value| with_value(random, row, field, value)).collect()
+    let empty = good.iter().find(|value| value.is_empty());
+    filled.into_iter().chain(empty).map(|value| with_value(random, row, field, value)).collect()
 }
 
 fn refused_file(random: &mut Random, row: usize, field: usize, number: u8) -> File {
