@@ -55,12 +55,17 @@ fn the_oracle_equals_itself() {
     assert!(!keep.exists());
 }
 
+/// The number of cases from which it is asked comes from the plan.
 #[test]
-fn short_runs_need_not_meet_every_kind() {
-    let output = compare(STAND_IN, &kept("short"), &["--cases", "499"]);
-    assert!(output.status.success() && text(&output).contains("too few cases: from 500 on"));
-    let output = compare(STAND_IN, &kept("short"), &["--cases", "500"]);
-    assert!(output.status.success() && !text(&output).contains("too few cases"));
+fn short_runs_say_what_they_did_not_show() {
+    let output = compare(STAND_IN, &kept("short"), &["--cases", "150"]);
+    let said = text(&output);
+    assert!(output.status.success() && said.contains("not shown: N of 5 digits never"), "{said}");
+    let (_, rest) = said.split_once("a short run: from ").expect("it says so");
+    let (cases, _) = rest.split_once(' ').expect("a number");
+    let output = compare(STAND_IN, &kept("short"), &["--cases", cases]);
+    let said = text(&output);
+    assert!(output.status.success() && !said.contains("a short run"), "{said}");
 }
 
 #[test]

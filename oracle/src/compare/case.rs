@@ -5,7 +5,7 @@ use super::chance::{chance_file, small_file};
 use super::command::Command;
 use super::cuts::{cut_file, cut_simply};
 use super::feed::commands;
-use super::sweep::swept_files;
+use super::sweep::{swept_files, Swept};
 use crate::generate::Random;
 
 pub struct Case {
@@ -19,7 +19,7 @@ pub struct Case {
 /// last, all others come by chance.
 pub struct Plan {
     seed: u64,
-    swept: Vec<File>,
+    swept: Swept,
 }
 
 impl Plan {
@@ -30,13 +30,18 @@ impl Plan {
 
     /// How many cases it takes to have all swept files among them.
     pub fn full(&self) -> usize {
-        self.swept.len().div_ceil(2) * 3
+        cases_for(self.swept.files.len())
+    }
+
+    /// How many cases it takes for every kind of field to come up.
+    pub fn cases_with_kinds(&self) -> usize {
+        cases_for(self.swept.with_kinds)
     }
 
     /// The swept file of a case, if it has one.
     fn swept(&self, number: usize) -> Option<&File> {
         let place = number / 3 * 2 + number % 3;
-        self.swept.get(place).filter(|_| number % 3 < 2)
+        self.swept.files.get(place).filter(|_| number % 3 < 2)
     }
 
     pub fn case(&self, number: usize) -> Case {
@@ -58,7 +63,8 @@ impl Plan {
     pub fn small_case(&self, number: usize) -> Case {
         let seed = self.case_seed(number);
         let mut random = Random::from_seed(seed);
-        let small: Vec<&File> = self.swept.iter().filter(|file| file.bytes.len() <= 400).collect();
+        let is_small = |file: &&File| file.bytes.len() <= 400;
+        let small: Vec<&File> = self.swept.files.iter().filter(is_small).collect();
         let file = match number % 2 {
             0 => small[number / 2 % small.len()].clone(),
             _ => small_file(&mut random, 400),
@@ -70,6 +76,12 @@ impl Plan {
     fn case_seed(&self, number: usize) -> u64 {
         mixed(self.seed ^ mixed(number as u64).number()).number()
     }
+}
+
+/// How many cases it takes to have so many swept files among them, one of
+/// three being by chance.
+fn cases_for(files: usize) -> usize {
+    files + files.saturating_sub(1) / 2
 }
 
 /// The seeds of neighbours are neighbours, so they are mixed before use.
@@ -163,7 +175,16 @@ mod tests {
         let plan = Plan::new(1);
         assert!(plan.full() <= DEFAULT_CASES);
         let swept = (0..DEFAULT_CASES).filter(|&number| plan.swept(number).is_some()).count();
-        assert_eq!(swept, plan.swept.len());
+        assert_eq!(swept, plan.swept.files.len());
+    }
+
+    #[test]
+    fn so_many_cases_have_so_many_swept_files() {
+        let plan = Plan::new(1);
+        for files in 0..7 {
+            let among = |cases| (0..cases).filter(|&number| plan.swept(number).is_some()).count();
+            assert_eq!(among(cases_for(files)), files);
+        }
     }
 
     #[test]

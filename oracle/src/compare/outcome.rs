@@ -5,10 +5,6 @@ use super::kind_tally::KindTally;
 /// Every refusal number that some case must end with.
 const NUMBERS: std::ops::RangeInclusive<usize> = 1..=15;
 
-/// From this many cases on every kind of field must have come up: the files
-/// made for that are fed by then.
-pub const KINDS_SETTLED: usize = 500;
-
 #[derive(Default)]
 pub struct Outcome {
     pub cases: usize,
@@ -17,6 +13,8 @@ pub struct Outcome {
     pub finals: [usize; 16],
     /// What came up of each kind of field, in cases without a difference.
     pub kinds: KindTally,
+    /// From this many cases on, all that can come up of each kind must have.
+    pub cases_with_kinds: usize,
     /// Cases with an answer that differs.
     pub differing: usize,
     /// Other things wrong with the program.
@@ -25,15 +23,14 @@ pub struct Outcome {
 
 impl Outcome {
     pub fn is_good(&self) -> bool {
-        let all_met = self.missing().is_empty() && self.missing_kinds().is_empty();
+        let kinds_met = self.is_short() || self.kinds.missing().is_empty();
+        let all_met = self.missing().is_empty() && kinds_met;
         self.differing == 0 && self.complaints.is_empty() && all_met
     }
 
-    fn missing_kinds(&self) -> Vec<String> {
-        match self.cases {
-            KINDS_SETTLED.. => self.kinds.missing(),
-            _ => Vec::new(),
-        }
+    /// Whether it had too few cases for every kind to come up.
+    fn is_short(&self) -> bool {
+        self.cases < self.cases_with_kinds
     }
 
     fn missing(&self) -> Vec<usize> {
@@ -46,10 +43,7 @@ impl Outcome {
         println!("  accepted   {:6}", self.finals[0]);
         NUMBERS.for_each(|number| println!("  refused {number:2} {:6}", self.finals[number]));
         self.kinds.print();
-        if self.cases < KINDS_SETTLED {
-            println!("  (too few cases: from {KINDS_SETTLED} on, all that can come up must)");
-        }
-        self.missing_kinds().iter().for_each(|missing| println!("FAILURE: {missing}"));
+        self.print_missing_kinds();
         if !self.missing().is_empty() {
             println!("FAILURE: no case ended with {:?}", self.missing());
         }
@@ -62,6 +56,14 @@ impl Outcome {
             false => println!("compare: {} cases, {} answers, NOT GOOD", self.cases, self.answers),
         }
     }
+
+    fn print_missing_kinds(&self) {
+        if self.is_short() {
+            println!("a short run: from {} cases on, each kind must come up", self.cases_with_kinds);
+        }
+        let what = if self.is_short() { "not shown" } else { "FAILURE" };
+        self.kinds.missing().iter().for_each(|missing| println!("{what}: {missing}"));
+    }
 }
 
 #[cfg(test)]
@@ -71,25 +73,26 @@ mod tests {
     use crate::compare::kind_tally::met_in_case;
 
     /// The outcome of that many cases, all answered rightly, with every number.
-    fn outcome(cases: usize) -> Outcome {
-        Outcome { cases, finals: [1; 16], ..Outcome::default() }
+    fn outcome(cases: usize, cases_with_kinds: usize) -> Outcome {
+        Outcome { cases, cases_with_kinds, finals: [1; 16], ..Outcome::default() }
     }
 
     #[test]
     fn a_kind_that_did_not_come_up_fails_a_run_that_is_not_short() {
-        assert!(outcome(KINDS_SETTLED - 1).is_good());
-        assert!(!outcome(KINDS_SETTLED).is_good());
+        assert!(outcome(299, 300).is_good());
+        assert!(!outcome(300, 300).is_good());
     }
 
     #[test]
     fn every_kind_has_come_up_by_then() {
         for seed in 0..6 {
             let plan = Plan::new(seed);
-            let mut outcome = outcome(KINDS_SETTLED);
-            for number in 0..KINDS_SETTLED {
+            let cases = plan.cases_with_kinds();
+            let mut outcome = outcome(cases, cases);
+            for number in 0..cases {
                 outcome.kinds.add(met_in_case(&plan.case(number).commands));
             }
-            assert!(outcome.is_good(), "seed {seed}: {:?}", outcome.missing_kinds());
+            assert!(outcome.is_good(), "seed {seed}: {:?}", outcome.kinds.missing());
         }
     }
 }

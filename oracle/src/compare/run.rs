@@ -30,20 +30,21 @@ pub fn run(options: &Options) -> io::Result<Outcome> {
         .spawn()?;
     let to_program = program.stdin.take().expect("its input is a pipe");
     let from_program = BufReader::new(program.stdout.take().expect("its output is a pipe"));
-    let (seed, cases) = (options.seed, options.cases);
+    let plan = Plan::new(options.seed);
+    let mut outcome = Outcome { cases_with_kinds: plan.cases_with_kinds(), ..Outcome::default() };
+    let cases = options.cases;
     // the queue has no limit: the program may take in much before it answers
     let (queue, queued) = channel();
     // not joined: it has ended if all cases came, and may be stuck if not
-    thread::spawn(move || write_cases(seed, cases, to_program, queue));
-    let mut outcome = compare_cases(options, queued, from_program)?;
+    thread::spawn(move || write_cases(plan, cases, to_program, queue));
+    compare_cases(options, queued, from_program, &mut outcome)?;
     stop(&mut program, &mut outcome)?;
     Ok(outcome)
 }
 
 /// Each case is queued before it is written. Ends early if the program does
 /// not read on.
-fn write_cases(seed: u64, cases: usize, mut to_program: ChildStdin, queue: Sender<Case>) {
-    let plan = Plan::new(seed);
+fn write_cases(plan: Plan, cases: usize, mut to_program: ChildStdin, queue: Sender<Case>) {
     for number in 0..cases {
         let case = plan.case(number);
         let bytes = stream(&case.commands);
@@ -57,8 +58,8 @@ fn compare_cases(
     options: &Options,
     queued: Receiver<Case>,
     mut from_program: impl BufRead,
-) -> io::Result<Outcome> {
-    let mut outcome = Outcome::default();
+    outcome: &mut Outcome,
+) -> io::Result<()> {
     for case in queued {
         let expected = expected_texts(&case.commands);
         let got = read_texts(&mut from_program, expected.len())?;
@@ -70,11 +71,11 @@ fn compare_cases(
             outcome.kinds.add(met_in_case(&case.commands));
         } else {
             outcome.differing += 1;
-            report(&Difference { case: &case, expected: &expected, got: &got }, options, &outcome)?;
+            report(&Difference { case: &case, expected: &expected, got: &got }, options, outcome)?;
         }
         if ended {
             outcome.complaints.push("the program's output ended too soon".to_string());
-            return Ok(outcome);
+            return Ok(());
         }
     }
     if outcome.cases < options.cases {
@@ -83,7 +84,7 @@ fn compare_cases(
     if !read_texts(&mut from_program, 1)?.is_empty() {
         outcome.complaints.push("the program wrote more than it was asked".to_string());
     }
-    Ok(outcome)
+    Ok(())
 }
 
 fn report(difference: &Difference, options: &Options, outcome: &Outcome) -> io::Result<()> {

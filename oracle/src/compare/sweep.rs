@@ -13,9 +13,22 @@ use super::sweep_places::place_files;
 use super::sweep_rows::row_files;
 use crate::generate::Random;
 
+pub struct Swept {
+    pub files: Vec<File>,
+    /// So many of the first of them show all that must come up of each kind.
+    pub with_kinds: usize,
+}
+
 /// The known ones and those of each kind first, then all others in an order
 /// made by chance, so that a short run has some of every sort.
-pub fn swept_files(random: &mut Random) -> Vec<File> {
+pub fn swept_files(random: &mut Random) -> Swept {
+    let first = [known_files(), kind_files(random)].concat();
+    let with_kinds = first.len();
+    let files = [first, c300_files(random), other_files(random)].concat();
+    Swept { files, with_kinds }
+}
+
+fn other_files(random: &mut Random) -> Vec<File> {
     let mut others = [
         row_files(random),
         field_files(random),
@@ -29,7 +42,7 @@ pub fn swept_files(random: &mut Random) -> Vec<File> {
     for place in (1..others.len()).rev() {
         others.swap(place, random.below(place + 1));
     }
-    [known_files(), c300_files(random), kind_files(random), others].concat()
+    others
 }
 
 #[cfg(test)]
@@ -44,7 +57,7 @@ mod tests {
     /// with lines in accepted files.
     fn what_comes_up() -> (BTreeSet<(u8, usize, u64)>, BTreeSet<usize>) {
         let (mut refusals, mut accepted) = (BTreeSet::new(), BTreeSet::new());
-        for file in swept_files(&mut Random::from_seed(1)) {
+        for file in swept_files(&mut Random::from_seed(1)).files {
             let bytes = &file.bytes;
             match finish(bytes) {
                 Final::Refused { number, field, bytes: judged, .. } => {
