@@ -27,7 +27,7 @@ pub fn any_kind(random: &mut Random, room: usize) -> Vec<u8> {
     with_field_at_edge(random, room, row, field)
 }
 
-/// Every field of one line filled, all of them good.
+/// Every field of one line filled that can be, all of them good.
 pub fn full_line(random: &mut Random, _room: usize) -> Vec<u8> {
     let (row, _) = *random.pick(&edge_fields());
     with_full_line(random, row).write()
@@ -73,4 +73,20 @@ fn with_field_at_edge(random: &mut Random, room: usize, row: usize, field: usize
     let place = *random.pick(&draft.places_of(rows()[row].code.as_bytes()));
     draft.lines[place].fields[field - 1] = edge_value(random, kind(row, field));
     draft.write()
+}
+
+#[cfg(test)]
+mod tests {
+    use super::*;
+
+    #[test]
+    fn full_lines_are_full() {
+        let mut random = Random::from_seed(1);
+        for (row, field) in edge_fields() {
+            let draft = with_full_line(&mut random, row);
+            let place = draft.places_of(rows()[row].code.as_bytes())[0];
+            let is_filled = !draft.lines[place].fields[field - 1].is_empty();
+            assert_eq!(is_filled, kind(row, field).can_be_filled(), "{} {field}", rows()[row].code);
+        }
+    }
 }

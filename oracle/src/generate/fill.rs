@@ -8,7 +8,7 @@ use crate::rows::rows;
 /// How full the fields are.
 #[derive(Clone, Copy)]
 pub struct Fullness {
-    /// Chance in a hundred that a field that may be empty is not.
+    /// Chance in a hundred that a field is filled that may be empty and need not.
     pub filled: usize,
     /// The longest text in fields that have no size.
     pub longest: usize,
@@ -28,11 +28,11 @@ fn good_field(random: &mut Random, kind: Kind, fullness: Fullness) -> Vec<u8> {
     match kind.role {
         Role::Fixed(text) => text.into(),
         Role::Mark | Role::Count => b"1".to_vec(),
-        _ if !random.percent(fullness.filled) => Vec::new(),
+        _ if !kind.can_be_filled() || !random.percent(fullness.filled) => Vec::new(),
         Role::Date => good_date(random),
         Role::Plain if kind.numeric => good_number(random, kind, fullness.longest),
         Role::Plain => {
-            let length = random.below(kind.longest_text().min(fullness.longest) + 1);
+            let length = random.between(1, kind.longest_text().min(fullness.longest));
             random.text(length)
         }
     }
