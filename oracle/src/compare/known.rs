@@ -5,8 +5,15 @@ use super::base::{
 };
 
 pub fn known_files() -> Vec<File> {
-    [whole_files(), second_lines(), field_values(), amounts(), rows_in_place(), other_rules()]
-        .concat()
+    [
+        whole_files(),
+        second_lines(),
+        field_values(),
+        amounts_and_dates(),
+        rows_in_place(),
+        other_rules(),
+    ]
+    .concat()
 }
 
 fn whole_files() -> Vec<File> {
@@ -81,14 +88,22 @@ fn field_values() -> Vec<File> {
     values.map(with).to_vec()
 }
 
-/// Amounts in the first amount field of lines of two blocks.
-fn amounts() -> Vec<File> {
-    let values = ["1,00", "1,0", "1,000", "1", ",00", "1.00", "1,0x", "-1,00"];
-    let lines: [(&[&str], usize); 2] = [(&["E300", "E340"], 2), (&["H020"], 4)];
+/// Amounts and dates in the first such fields of lines of two blocks.
+fn amounts_and_dates() -> Vec<File> {
+    let long = "999999999999999999999,00";
+    let amounts = ["", "1,00", long, "1,0", "1,000", "1", ",00", "1.00", "1,0x", "-1,00"];
+    let dates = ["", "29022012", "29022011", "31042012", "2902201x", "2902201"];
+    let lines: [(&[&str], usize, &[&str]); 4] = [
+        (&["E300", "E340"], 2, &amounts),
+        (&["H020"], 4, &amounts),
+        (&["E300"], 2, &dates),
+        (&["H020"], 3, &dates),
+    ];
     let mut files = Vec::new();
-    for (codes, field) in lines {
-        let with = |value| file(format!("{codes:?} amount {value}"), block_start_with(codes, field, value));
-        files.extend(values.map(with));
+    for (codes, field, values) in lines {
+        let about = |value| format!("{} field {field}: {value}", codes.join(" "));
+        let with = |value| file(about(value), block_start_with(codes, field, value));
+        files.extend(values.iter().map(|&value| with(value)));
     }
     files
 }
