@@ -71,7 +71,7 @@ fn short_runs_say_what_they_did_not_show() {
 #[test]
 fn every_fault_is_caught() {
     let faults = faults();
-    assert_eq!(faults.len(), 61);
+    assert_eq!(faults.len(), 66);
     for fault in faults.iter().filter(|fault| !SEEN_IN_LONG_RUNS.contains(&fault.as_str())) {
         assert_caught(fault, &["--cases", "500"]);
     }

@@ -1,6 +1,6 @@
 //! The faults, each the honest behaviour with one thing other.
 
-use crate::{counts, forgives, forgives_fields, joins, says, sees};
+use crate::{counts, forgives, forgives_fields, joins, refuses_fields, says, sees};
 use oracle::Answer;
 
 pub struct Fault {
@@ -60,7 +60,7 @@ const fn numbering(name: &'static str, numbers: fn(&[u8], Answer, bool) -> (u64,
     Fault { name, numbers, ..NONE }
 }
 
-pub const FAULTS: [Fault; 56] = [
+pub const FAULTS: [Fault; 61] = [
     joining("loses-cr", joins::without_last_cr),
     joining("loses-cr-at-empty-piece", joins::cr_lost_at_empty_piece),
     joining("loses-code", joins::code_lost),
@@ -89,9 +89,14 @@ pub const FAULTS: [Fault; 56] = [
     saying("no-comma", forgives_fields::no_comma),
     saying("any-amount-in-e", forgives_fields::any_amount_in_e),
     saying("any-volume", forgives_fields::any_volume),
+    saying("any-later-date", forgives_fields::any_later_date),
     saying("size-one-more", forgives_fields::size_one_more),
     saying("length-in-8-bits", forgives_fields::length_in::<8>),
     saying("length-in-16-bits", forgives_fields::length_in::<16>),
+    saying("refuses-empty-amount", refuses_fields::empty_amount),
+    saying("refuses-text-over-255", refuses_fields::text_over_255),
+    saying("refuses-amount-over-20-digits", refuses_fields::amount_over_20_digits),
+    saying("refuses-other-than-two-decimals", refuses_fields::other_than_two_decimals),
     saying("lf-after-bar-is-2", says::lf_after_bar_is_2),
     saying("control-after-fields-is-2", says::control_after_fields_is_2),
     saying("byte-26-at-end", forgives::byte_26_at_end),

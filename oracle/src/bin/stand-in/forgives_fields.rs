@@ -2,13 +2,13 @@
 
 use crate::forgives::refused_line;
 use crate::says::forgiven;
-use oracle::kinds::{kind, Kind};
+use oracle::kinds::{kind, Kind, Role};
 use oracle::rows::row_with_code;
 use oracle::{Answer, BAR};
 
 /// A field that was refused.
 struct Refused<'a> {
-    block: u8,
+    code: &'a [u8],
     kind: Kind,
     text: &'a [u8],
 }
@@ -18,9 +18,9 @@ fn refused_field<'a>(all: &'a [u8], answer: &Answer, wanted: u8) -> Option<Refus
         return None;
     };
     let line = refused_line(all, answer, wanted)?;
-    let row = row_with_code(line.get(1..5)?)?;
+    let code = line.get(1..5)?;
     let text = line.split(|&byte| byte == BAR).nth(field as usize)?;
-    Some(Refused { block: line[1], kind: kind(row, field as usize), text })
+    Some(Refused { code, kind: kind(row_with_code(code)?, field as usize), text })
 }
 
 fn forgive(all: &[u8], answer: Answer, number: u8, when: fn(&Refused) -> bool) -> Answer {
@@ -57,12 +57,17 @@ pub fn no_comma(all: &[u8], answer: Answer) -> Answer {
 
 /// Decimals are not looked at in block E.
 pub fn any_amount_in_e(all: &[u8], answer: Answer) -> Answer {
-    forgive(all, answer, 10, |refused| refused.block == b'E' && refused.kind.decimals.is_some())
+    forgive(all, answer, 10, |refused| refused.code[0] == b'E' && refused.kind.decimals.is_some())
 }
 
 /// Fields with 3 decimals hold anything.
 pub fn any_volume(all: &[u8], answer: Answer) -> Answer {
     forgive(all, answer, 10, |refused| refused.kind.decimals == Some(3))
+}
+
+/// Dates are looked at in 0000 only.
+pub fn any_later_date(all: &[u8], answer: Answer) -> Answer {
+    forgive(all, answer, 12, |refused| refused.kind.role == Role::Date && refused.code != b"0000")
 }
 
 pub fn size_one_more(all: &[u8], answer: Answer) -> Answer {

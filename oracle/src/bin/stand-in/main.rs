@@ -9,6 +9,7 @@ mod forgives;
 mod forgives_fields;
 mod honest;
 mod joins;
+mod refuses_fields;
 mod says;
 mod sees;
 

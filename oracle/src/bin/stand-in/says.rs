@@ -34,7 +34,7 @@ pub fn open_for_14(all: &[u8], answer: Answer) -> Answer {
     }
 }
 
-fn refusal(number: u8, lines: u64, field: u64, bytes: u64) -> Answer {
+pub fn refusal(number: u8, lines: u64, field: u64, bytes: u64) -> Answer {
     Answer::Refused { number, line: lines + 1, field, lines, bytes }
 }
 

@@ -1,0 +1,63 @@
+//! Fields that are refused though they stand.
+
+use crate::says::refusal;
+use oracle::kinds::{kind, Kind};
+use oracle::rows::{row_with_code, rows};
+use oracle::{Answer, BAR, LF};
+
+type Field<'a> = (Kind, &'a [u8]);
+
+/// Refuses at the end of the first field of these that was not refused.
+fn refuse(all: &[u8], answer: Answer, number: u8, when: fn(Field) -> bool) -> Answer {
+    let judged = match answer {
+        Answer::Refused { bytes, .. } => (bytes as usize).saturating_sub(1),
+        _ => all.len(),
+    };
+    let mut start = 0;
+    for (lines, line) in all[..judged].split_inclusive(|&byte| byte == LF).enumerate() {
+        if let Some((field, length)) = first_field(line, when) {
+            return refusal(number, lines as u64, field as u64, (start + length) as u64);
+        }
+        start += line.len();
+    }
+    answer
+}
+
+/// The number of the first of these fields, and how far the line goes up to
+/// and with the bar after it.
+fn first_field(line: &[u8], when: fn(Field) -> bool) -> Option<(usize, usize)> {
+    let row = row_with_code(line.get(1..5)?).filter(|_| line.get(5) == Some(&BAR))?;
+    let mut length = 6;
+    for field in 2..=rows()[row].fields {
+        let end = line[length..].iter().position(|&byte| byte == BAR)?;
+        let text = &line[length..length + end];
+        length += end + 1;
+        if when((kind(row, field), text)) {
+            return Some((field, length));
+        }
+    }
+    None
+}
+
+pub fn empty_amount(all: &[u8], answer: Answer) -> Answer {
+    refuse(all, answer, 10, |(kind, text)| kind.decimals.is_some() && text.is_empty())
+}
+
+/// The text of 0450 gets no more room than those without a size.
+pub fn text_over_255(all: &[u8], answer: Answer) -> Answer {
+    refuse(all, answer, 11, |(kind, text)| !kind.numeric && text.len() > 255)
+}
+
+pub fn amount_over_20_digits(all: &[u8], answer: Answer) -> Answer {
+    refuse(all, answer, 10, |(kind, text)| {
+        kind.decimals.is_some() && text.iter().filter(|byte| byte.is_ascii_digit()).count() > 20
+    })
+}
+
+/// Two decimals are asked of every number with decimals, beside what its kind
+/// asks.
+pub fn other_than_two_decimals(all: &[u8], answer: Answer) -> Answer {
+    refuse(all, answer, 10, |(kind, text)| {
+        kind.decimals.is_some_and(|decimals| decimals != 2) && !text.is_empty()
+    })
+}
