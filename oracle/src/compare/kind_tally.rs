@@ -59,8 +59,8 @@ impl Met {
             return;
         };
         let ended = (parts.len() - 1).min(rows()[row].fields + 1);
-        for field in 2..ended {
-            match parts[field].is_empty() {
+        for (field, text) in parts.iter().enumerate().take(ended).skip(2) {
+            match text.is_empty() {
                 true => self.empty.insert(kind(row, field)),
                 false => self.filled.insert(kind(row, field)),
             };
