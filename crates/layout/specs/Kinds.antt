@@ -15,7 +15,7 @@ use Rattle.layout.specs.Sheets.{Entry, LIN, Sheet, sheets}
 unfoldable pub kindOf : Entry → Kind
 kindOf e = pick (begins "DT_" (e .name)) date (e .columns)
 
--- the sheet of a code; C305 has none, and so no field but its code
+-- what the sheet of a code lists; C305 has no sheet, and of it only field 1, the code, is known
 unfoldable pub sheetOf : String → List Sheet → List Entry
 sheetOf code [] = LIN ∷ []
 sheetOf code (s ∷ ss) = let rest = sheetOf code ss in pick (sameText (s .of) code) (s .entries) rest

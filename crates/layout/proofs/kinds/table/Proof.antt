@@ -13,6 +13,7 @@ use Rattle.layout.proofs.kinds.table.Lts as lts
 use Rattle.layout.proofs.kinds.table.Reads as reads
 use Rattle.layout.proofs.kinds.table.Tie as tie
 
+-- what `table` gives back is named by the generated proof's own parts: then a wrong entry is refused with its place and numbers
 all-same : (c : tie.Start) → compared 0 (function.resV lts.r tt (lts.m2 reads.Pre reads.Post (c .args) .0)) packedKinds ≡ same
 unfolding compared packedKinds flatKinds joinedParts kindNumber kindsOf fitted kindOf sheetOf sheets
     isOpening isClosing fields code listed rowTable textNumber codeNumber bytes
