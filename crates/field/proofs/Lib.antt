@@ -4,5 +4,6 @@ pub mod DigitLaws
 pub mod TextLaws
 pub mod DecimalLaws
 pub mod FaultLaws
+pub mod MonthLaws
 pub mod OpeningLaws
 pub mod BareCases

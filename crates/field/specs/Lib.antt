@@ -1,3 +1,4 @@
 pub mod Streaming
+pub mod Months
 pub mod Ruled
 pub mod BareCases

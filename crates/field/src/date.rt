@@ -1,11 +1,19 @@
 // Whether the number ddmmyyyy is a Gregorian date, year 1900 to 2099.
 ghost use mathlib.Core.Path.{_≡_};
+ghost use Prim.Native.Nat.{_≤_};
 ghost use Rattle.rules.specs.Fields.{isDate, isLeapYear, daysOf};
+ghost use Rattle.field.specs.Months.{daysFromMarch};
 
-// The days of each month, from 1. February's are not read from here: they go by the year.
-const DAYS: [u64; 13] = [0, 31, 28, 31, 30, 31, 30, 31, 31, 30, 31, 30, 31];
+const MONTHS: u64 = 12;
 
-const FEBRUARY: u64 = 2;
+const MARCH: u64 = 3;
+
+const COMMON_YEAR: u64 = 365;
+
+const LEAP_YEAR: u64 = 366;
+
+// From March on: 31, 30, 31, 30 and 31.
+const DAYS_OF_FIVE_MONTHS: u64 = 153;
 
 fn is_leap_year(y: u64) -> bool
     ensures { λ r. ⌜ r ≡ isLeapYear y ⌝ }
@@ -16,19 +24,34 @@ fn is_leap_year(y: u64) -> bool
     y % 4 == 0
 }
 
+// The days of the first months of year y, taken from March on, January and February last: the sum to the nearest day, and no more
+// than the year has. Eleven months have 337, so only all twelve reach its end.
+fn days_from_march(y: u64, months: u64) -> u64
+    requires { ⌜ months ≤ 12 ⌝ }
+    ensures { λ r. ⌜ r ≡ daysFromMarch (isLeapYear y) months ⌝ }
+{
+    let days = (DAYS_OF_FIVE_MONTHS * months + 2) / 5;
+    if days < COMMON_YEAR {
+        return days;
+    }
+    if is_leap_year(y) {
+        return LEAP_YEAR;
+    }
+    COMMON_YEAR
+}
+
 fn days_of(y: u64, m: u64) -> u64
     ensures { λ r. ⌜ r ≡ daysOf y m ⌝ }
 {
-    if m == FEBRUARY {
-        if is_leap_year(y) {
-            return 29;
-        }
-        return 28;
+    if m < 1 {
+        return 0;
     }
-    if m < 13 {
-        return DAYS[m as usize];
+    if MONTHS < m {
+        return 0;
     }
-    0
+    // the months from March on that come before this one
+    let before = (m + MONTHS - MARCH) % MONTHS;
+    days_from_march(y, before + 1) - days_from_march(y, before)
 }
 
 pub fn is_date(n: u64) -> bool

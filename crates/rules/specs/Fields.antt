@@ -35,11 +35,13 @@ isDecimal d w =
 unfoldable pub isLeapYear : ℕ → Bool
 isLeapYear y = eqb (y % 4) 0 && not (eqb (y % 100) 0) || eqb (y % 400) 0
 
--- the days of a month; of a month that is not there none
+-- the calendar: the days of a month, January being 1, in a leap year or not; of a month that is not there none
+abbrev pub calendar : Bool → ℕ → ℕ
+calendar leap m = getD (0 ∷ 31 ∷ pick leap 29 28 ∷ 31 ∷ 30 ∷ 31 ∷ 30 ∷ 31 ∷ 31 ∷ 30 ∷ 31 ∷ 30 ∷ 31 ∷ []) m 0
+
+-- the days of month m of year y
 unfoldable pub daysOf : ℕ → ℕ → ℕ
-daysOf y m =
-    pick (eqb m 2) (pick (isLeapYear y) 29 28)
-    (getD (0 ∷ 31 ∷ 28 ∷ 31 ∷ 30 ∷ 31 ∷ 30 ∷ 31 ∷ 31 ∷ 30 ∷ 31 ∷ 30 ∷ 31 ∷ []) m 0)
+daysOf y m = calendar (isLeapYear y) m
 
 -- the number ddmmyyyy is a date
 unfoldable pub isDate : ℕ → Bool
