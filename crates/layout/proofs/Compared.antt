@@ -1,9 +1,10 @@
 -- Two lists compared entry by entry: a check that refuses it prints the first place at which they differ, and the two entries.
-use mathlib.Core.Path.{_≡_, refl, ap₂}
+use mathlib.Core.Path.{_≡_, _∙_, refl, sym, ap₂}
 use mathlib.Core.Bool.{Bool, true, false}
-use mathlib.Core.List.{List, [], _∷_}
+use mathlib.Core.List.{List, [], _∷_, _++_}
 use Prim.Native.Nat.{ℕ, suc}
 use lib.Dec.{eqb}
+use lib.ListN.{take, drop, take-append-drop}
 use borrow.Author.Tests.{eqb-true}
 use Rattle.layout.specs.Pick.{pick}
 
@@ -34,3 +35,9 @@ compared-same n (x ∷ xs) (y ∷ ys) e = go (eqb x y) refl e (compared-same (su
 
 pub same-lists : {xs ys : List ℕ} → compared 0 xs ys ≡ same → xs ≡ ys
 same-lists {xs} {ys} = compared-same 0 xs ys
+
+-- compared in two parts, where the whole is too long for the check to print the difference
+pub same-parts : (n : ℕ) {xs ys : List ℕ} → compared 0 (take n xs) (take n ys) ≡ same
+    → compared n (drop n xs) (drop n ys) ≡ same → xs ≡ ys
+same-parts n {xs} {ys} p q =
+    sym (take-append-drop n xs) ∙ ap₂ _++_ (compared-same 0 _ _ p) (compared-same n _ _ q) ∙ take-append-drop n ys
