@@ -7,7 +7,7 @@ use lib.ListN.{getD}
 use Rattle.layout.specs.Pick.{pick}
 use Rattle.layout.specs.Text.{bytes}
 use Rattle.layout.specs.Packed.{brasilClass, cClass, codeClass, countClass, dateClass, decimalsClass, lfpdClass}
-use Rattle.layout.specs.Packed.{nClass, opensClass, sizeUnit}
+use Rattle.layout.specs.Packed.{nAnyClass, opensClass, sizeUnit}
 use Rattle.rules.specs.Fields.{isDigit, isDate, comma}
 use Rattle.rules.specs.Rules.{byteLimit}
 use Rattle.field.specs.declared.bytes.Field.{Field}
@@ -88,16 +88,19 @@ emptyFault class = pick (eqb class opensClass) 12 (pick (eqb class countClass) 1
 unfoldable pub rightForm : ℕ → ℕ → Field → Bool
 rightForm class size f = eqb (f .wrong) 0 && (not (eqb class decimalsClass) || eqb (f .value) (size + 1))
 
+-- the numbers whose size is asked
 unfoldable pub isExact : ℕ → Bool
-isExact class = eqb class nClass || eqb class dateClass || eqb class opensClass
+isExact class = not (eqb class decimalsClass || eqb class nAnyClass || eqb class countClass)
 
 unfoldable pub rightSize : ℕ → ℕ → ℕ → Bool
 rightSize class size length = not (isExact class) || eqb length size
 
+-- of plain numbers, with decimals or without, nothing more is asked; most numbers are plain, so they are told first
 unfoldable pub contentFault : ℕ → ℕ → ℕ → ℕ
 contentFault class value due =
-    pick (eqb class dateClass) (pick (isDate value) 0 12)
-    (pick (eqb class opensClass) (pick (leb value 1) 0 12) (pick (eqb class countClass) (pick (eqb value due) 0 13) 0))
+    pick (leb class decimalsClass) 0
+    (pick (eqb class dateClass) (pick (isDate value) 0 12)
+    (pick (eqb class opensClass) (pick (leb value 1) 0 12) (pick (eqb class countClass) (pick (eqb value due) 0 13) 0)))
 
 unfoldable pub numberFault : ℕ → ℕ → Field → ℕ → ℕ
 numberFault class size f due =

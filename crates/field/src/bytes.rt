@@ -12,7 +12,7 @@ pub const CLASS_CODE: u64 = layout::kinds::CLASS_CODE as u64;
 
 pub const CLASS_C: u64 = layout::kinds::CLASS_C as u64;
 
-pub const CLASS_N: u64 = layout::kinds::CLASS_N as u64;
+pub const CLASS_N_ANY: u64 = layout::kinds::CLASS_N_ANY as u64;
 
 pub const CLASS_DECIMALS: u64 = layout::kinds::CLASS_DECIMALS as u64;
 

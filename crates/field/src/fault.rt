@@ -6,7 +6,7 @@ use crate::bytes::CLASS_C;
 use crate::bytes::CLASS_COUNT;
 use crate::bytes::CLASS_DATE;
 use crate::bytes::CLASS_DECIMALS;
-use crate::bytes::CLASS_N;
+use crate::bytes::CLASS_N_ANY;
 use crate::bytes::CLASS_OPENS;
 use crate::bytes::Field;
 use crate::bytes::SIZE_UNIT;
@@ -49,13 +49,17 @@ fn right_form(class: u64, size: u64, f: Field) -> bool
     f.value - 1 == size
 }
 
+// The numbers whose size is asked.
 fn is_exact(class: u64) -> bool
     ensures { λ r. ⌜ r ≡ isExact class ⌝ }
 {
-    if class == CLASS_N {
-        return true;
+    if class == CLASS_DECIMALS {
+        return false;
     }
-    class == CLASS_DATE || class == CLASS_OPENS
+    if class == CLASS_N_ANY {
+        return false;
+    }
+    class != CLASS_COUNT
 }
 
 fn right_size(class: u64, size: u64, length: u64) -> bool
@@ -67,9 +71,13 @@ fn right_size(class: u64, size: u64, length: u64) -> bool
     true
 }
 
+// Of plain numbers, those of the classes up to decimals, nothing more is asked. Most are plain, so they are told first.
 fn content_fault(class: u64, value: u64, due: u64) -> u64
     ensures { λ r. ⌜ r ≡ contentFault class value due ⌝ }
 {
+    if class <= CLASS_DECIMALS {
+        return 0;
+    }
     if class == CLASS_DATE {
         return if is_date(value) { 0 } else { WRONG_CONTENT };
     }

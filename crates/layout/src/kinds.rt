@@ -21,16 +21,16 @@ pub const KIND_MOST: u64 = SIZE_UNIT as u64 * (SIZE_MOST + 1) - 1;
 // No field: it stands past a row's last one.
 pub const NO_FIELD: u32 = 0;
 
-// The classes. Field 1 of every line.
+// The classes; those of plain numbers stand before the others of numbers, and `field` relies on it. Field 1 of every line.
 pub const CLASS_CODE: u32 = 1;
 
 // C: at most so many bytes.
 pub const CLASS_C: u32 = 2;
 
 // N: digits, exactly so many; and N without a size.
-pub const CLASS_N: u32 = 3;
+const CLASS_N: u32 = 3;
 
-const CLASS_N_ANY: u32 = 4;
+pub const CLASS_N_ANY: u32 = 4;
 
 // N with decimals: its size is their number.
 pub const CLASS_DECIMALS: u32 = 5;

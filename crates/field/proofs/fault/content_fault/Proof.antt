@@ -5,12 +5,12 @@ use borrow.Author.Needs.{needs}
 use Rattle.field.proofs.fault.content_fault.Statement.{statement}
 use Rattle.field.proofs.fault.content_fault.Tie as tie
 
-is-date-requires : tie.Need-is-date-requires
-is-date-requires c κs = search needs
-
 returns : tie.Need-returns
 unfolding contentFault
 returns c = search called depth 12
+
+is-date-requires : tie.Need-is-date-requires
+is-date-requires c κs = search needs
 
 returns-2 : tie.Need-returns-2
 unfolding contentFault
@@ -36,7 +36,11 @@ returns-7 : tie.Need-returns-7
 unfolding contentFault
 returns-7 c = search called depth 12
 
+returns-8 : tie.Need-returns-8
+unfolding contentFault
+returns-8 c = search called depth 12
+
 pub content-fault-spec : {M : Type 1} → statement M
 content-fault-spec =
     tie.close
-    (tie.spec is-date-requires returns returns-2 returns-3 returns-4 returns-5 returns-6 returns-7)
+    (tie.spec returns is-date-requires returns-2 returns-3 returns-4 returns-5 returns-6 returns-7 returns-8)
