@@ -1,7 +1,7 @@
 -- One field as it streams through: what is kept of its bytes, and what its bar finds, at every kind number and field.
 use mathlib.Core.Bool.{Bool, not, _&&_, _||_}
 use mathlib.Core.List.{List, [], _∷_}
-use Prim.Native.Nat.{ℕ, _+_, _-_, _*_, _/_, _%_, _≤_, min}
+use Prim.Native.Nat.{ℕ, _+_, _-_, _*_, _/_, _%_, _^_, _≤_, min}
 use lib.Dec.{eqb, leb, ltb}
 use lib.ListN.{getD}
 use Rattle.layout.specs.Pick.{pick}
@@ -12,9 +12,10 @@ use Rattle.rules.specs.Fields.{isDigit, isDate, comma}
 use Rattle.rules.specs.Rules.{byteLimit}
 use Rattle.field.specs.declared.bytes.Field.{Field}
 
--- a value is kept up to just above the largest number of bytes, and so of lines
+-- a value is kept up to just above that of 14 digits, the most that are looked at again; it is above the largest number of
+-- bytes too, and so of lines
 abbrev pub cap : ℕ
-cap = byteLimit + 1
+cap = 10 ^ 14
 
 -- what may be asked: the stored numbers' ranges
 pub record FieldFit (f : Field) : Type 0 where

@@ -28,8 +28,8 @@ pub const CLASS_COUNT: u64 = layout::kinds::CLASS_COUNT as u64;
 
 const COMMA: u8 = 44;
 
-// A value is kept up to this, just above the largest number of bytes, and so of lines.
-pub const CAP: u64 = rules::BYTE_LIMIT + 1;
+// A value is kept up to this, just above that of 14 digits, those of a CNPJ, and well above the largest number of lines.
+pub const CAP: u64 = 100_000_000_000_000;
 
 // How many bytes, whether one of them is wrong, and the value, by the field's kind.
 pub struct Field {
