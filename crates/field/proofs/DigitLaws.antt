@@ -37,7 +37,7 @@ module _ (kind : ℕ) (on : (f : Field) (b : ℕ) → withByte kind f b ≡ digi
       ap (λ f. f .value) (on (fieldAfter kind w) b) ∙ ap (λ v. min cap (v * 10 + (b - 48))) (digits-value w)
       ∙ stays (value w) (b - 48)
 
-digit-below : (b : ℕ) → isDigit b ≡ true → b - 48 < 10
+pub digit-below : (b : ℕ) → isDigit b ≡ true → b - 48 < 10
 unfolding isDigit
 digit-below b e = let h = leb-true b 57 (and-right (leb 48 b) (leb b 57) e) in omega arith
 

@@ -3,6 +3,7 @@ pub mod LengthLaws
 pub mod DigitLaws
 pub mod TextLaws
 pub mod DecimalLaws
+pub mod CheckDigitLaws
 pub mod FaultLaws
 pub mod MonthLaws
 pub mod OpeningLaws

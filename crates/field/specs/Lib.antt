@@ -1,3 +1,4 @@
+pub mod Digits
 pub mod Streaming
 pub mod Months
 pub mod Ruled

@@ -8,9 +8,11 @@ use Rattle.layout.specs.Kinds
 use Rattle.rules.specs.Bytes
 use Rattle.rules.specs.Order
 use Rattle.rules.specs.Counts
+use Rattle.rules.specs.CheckDigits
 use Rattle.rules.specs.Fields
 use Rattle.rules.specs.Rules
 use Rattle.rules.specs.BareCases.{rowNamed, rowsNamed, placed, dueAfter, lineCases, numberOf, brokenAfter, dated, byteCases}
+use Rattle.rules.specs.BareCases.{digitAfter, digitCases}
 
 pub line-cases : map (λ c. c .says) lineCases ≡ map (λ c. c .given) lineCases
 unfolding lineCases rowNamed rowsNamed placed dueAfter Text.bytes Text.codeNumber Text.textNumber Rows.rowTable
@@ -19,6 +21,10 @@ unfolding lineCases rowNamed rowsNamed placed dueAfter Text.bytes Text.codeNumbe
     Order.shallower Order.openRows Order.among Order.isOpen Order.startsBlock Order.hangs Order.canStand
     Order.underParent Order.hasRoom Counts.linesOfBlock Counts.due
 line-cases = refl
+
+pub digit-cases : map (λ c. c .says) digitCases ≡ map (λ c. c .given) digitCases
+unfolding digitCases digitAfter Text.bytes CheckDigits.digitsOf CheckDigits.weighed CheckDigits.checkDigit
+digit-cases = refl
 
 pub byte-cases : map (λ c. c .says) byteCases ≡ map (λ c. c .given) byteCases
 unfolding byteCases numberOf brokenAfter dated Text.bytes Text.codeNumber Text.textNumber Rows.rowTable

@@ -10,6 +10,7 @@ use Rattle.layout.specs.Kind.{date}
 use Rattle.rules.specs.Bytes.{bar, CR, LF}
 use Rattle.rules.specs.Order.{canStand, hasRoom}
 use Rattle.rules.specs.Counts.{due}
+use Rattle.rules.specs.CheckDigits.{digitsOf, checkDigit, cnpjWeights, cpfWeights}
 use Rattle.rules.specs.Fields.{formOf}
 use Rattle.rules.specs.Rules.{Fault, clear, breaks, rules, firstBroken}
 
@@ -68,6 +69,24 @@ brokenAfter line b = numberOf (firstBroken rules (reverse (bytes line)) b)
 -- rule 12 of a date; 0 where there is such a date
 unfoldable pub dated : String → ℕ
 dated text = pick (formOf date .content (reverse (bytes text))) 0 12
+
+-- 02, request h: the digit that these must be followed by
+unfoldable pub digitAfter : List ℕ → String → ℕ
+digitAfter weights text = checkDigit weights (digitsOf (reverse (bytes text)))
+
+unfoldable pub digitCases : List Bare
+digitCases =
+    -- 11222333000181: the sums are 102 and 120; 52998224725: they are 295 and 347
+    bare 8 (digitAfter cnpjWeights "112223330001") ∷
+    bare 1 (digitAfter (6 ∷ cnpjWeights) "1122233300018") ∷
+    bare 2 (digitAfter cpfWeights "529982247") ∷
+    bare 5 (digitAfter (11 ∷ cpfWeights) "5299822472") ∷
+    -- "0 if r is below 2, else 11 - r": the sums 12, 2 and 10
+    bare 0 (digitAfter cnpjWeights "000000000040") ∷
+    bare 9 (digitAfter cnpjWeights "000000000001") ∷
+    bare 1 (digitAfter cnpjWeights "000000000005") ∷
+    bare 0 (digitAfter cnpjWeights "000000000000") ∷
+    []
 
 unfoldable pub byteCases : List Bare
 byteCases =

@@ -1,6 +1,7 @@
 pub mod Bytes
 pub mod Order
 pub mod Counts
+pub mod CheckDigits
 pub mod Fields
 pub mod Rules
 pub mod Verdict
