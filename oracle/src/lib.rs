@@ -1,8 +1,10 @@
-//! An independent checker of SEF/eDoc files, written from document 01 and
-//! the manual's Appendix B only. It reads the whole bytes received: cuts
-//! them into lines and fields, finds each line's parent among the lines
-//! before it, and asks for every byte which rules it breaks.
+//! An independent checker of SEF/eDoc files, written from document 01, the
+//! requests of document 02 that have landed and the manual's Appendix B only.
+//! It reads the whole bytes received: cuts them into lines and fields, finds
+//! each line's parent among the lines before it, and asks for every byte which
+//! rules it breaks.
 
+mod check_digits;
 pub mod compare;
 mod content;
 mod count;
@@ -19,6 +21,7 @@ mod sheets;
 mod spot;
 mod verdict;
 
+pub use check_digits::Id;
 pub use checker::{Answer, Checker};
 pub use verdict::{
     counts, finish, judgement, verdict, verdict_within, Final, Judgement, Verdict, BYTE_LIMIT,
