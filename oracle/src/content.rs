@@ -1,5 +1,5 @@
-//! Rules 10 to 13: what a field holds. All of them speak of the bar that
-//! ends the field.
+//! Rules 10 to 13 and 24: what a field holds. All of them speak of the bar
+//! that ends the field.
 
 use crate::count::{expected_count, has_value};
 use crate::date::is_date;
@@ -32,7 +32,7 @@ pub fn wrong_value(spot: &Spot) -> Option<usize> {
         Role::Fixed(text) => spot.text != text.as_bytes(),
         Role::Mark => spot.text != b"0" && spot.text != b"1",
         Role::Date => !spot.text.is_empty() && !is_date(spot.text),
-        Role::Plain | Role::Count => false,
+        Role::Plain | Role::Count | Role::Id(_) => false,
     };
     breaks.then_some(spot.field)
 }
@@ -44,6 +44,15 @@ pub fn untrue_count(spot: &Spot) -> Option<usize> {
     }
     let true_count = expected_count(spot.line_row()?, spot.before);
     (!has_value(spot.text, true_count)).then_some(spot.field)
+}
+
+/// 24: a wrong check digit.
+pub fn wrong_check_digit(spot: &Spot) -> Option<usize> {
+    let Role::Id(id) = ended_kind(spot)?.role else {
+        return None;
+    };
+    let breaks = !spot.text.is_empty() && !id.is_right(spot.text);
+    breaks.then_some(spot.field)
 }
 
 /// The kind of the field that this byte's bar ends.

@@ -2,6 +2,7 @@
 //! a row has, the row's sheet what they hold; a field that no sheet gives is
 //! a text without a size, and what a sheet gives beyond them is left out.
 
+use crate::check_digits::Id;
 use crate::rows::{rows, Row};
 use crate::sheets::SHEETS;
 use std::collections::BTreeMap;
@@ -25,6 +26,8 @@ pub enum Role {
     Mark,
     /// Field 2 of a closing or of 9999.
     Count,
+    /// A CNPJ or CPF, with check digits.
+    Id(Id),
 }
 
 #[derive(Clone, Copy, Debug, PartialEq, Eq, PartialOrd, Ord)]
@@ -49,6 +52,8 @@ impl Role {
             Role::Fixed(text) => Some(text),
             Role::Mark => Some("mark"),
             Role::Count => Some("count"),
+            Role::Id(Id::Cnpj) => Some("cnpj"),
+            Role::Id(Id::Cpf) => Some("cpf"),
         }
     }
 }
@@ -66,7 +71,7 @@ impl Kind {
 
     /// Whether it stands with nothing in it.
     pub fn may_be_empty(&self) -> bool {
-        matches!(self.role, Role::Plain | Role::Date)
+        matches!(self.role, Role::Plain | Role::Date | Role::Id(_))
     }
 
     /// Whether it can be refused by this number of those that go by what a
@@ -75,8 +80,9 @@ impl Kind {
         match number {
             10 => self.numeric,
             11 => !self.numeric || self.size.is_some(),
-            12 => !matches!(self.role, Role::Plain | Role::Count),
+            12 => matches!(self.role, Role::Date | Role::Fixed(_) | Role::Mark),
             13 => self.role == Role::Count,
+            24 => matches!(self.role, Role::Id(_)),
             _ => false,
         }
     }
@@ -154,7 +160,7 @@ fn read_field(row: &Row, field: usize, entry: &'static str) -> Field {
     Field { name, kind }
 }
 
-/// Dates go by their name, all else by the row.
+/// Dates, CNPJ and CPF go by their name, all else by the row.
 fn role(row: &Row, field: usize, name: &str) -> Role {
     match (row.code.as_str(), field) {
         ("0000", 2) => Role::Fixed("LFPD"),
@@ -162,7 +168,7 @@ fn role(row: &Row, field: usize, name: &str) -> Role {
         (_, 2) if row.is_opening() => Role::Mark,
         (_, 2) if row.has_count() => Role::Count,
         _ if name.starts_with("DT_") => Role::Date,
-        _ => Role::Plain,
+        _ => Id::in_field_named(name).map_or(Role::Plain, Role::Id),
     }
 }
 
@@ -212,6 +218,9 @@ mod tests {
         assert_eq!(names.len(), kinds.len());
         let number = |name: &str| kinds.iter().find(|kind| kind.0.to_string() == name).unwrap().1;
         assert_eq!((*number("LFPD"), *number("mark"), *number("count")), (1, 7, 8));
+        // NIRE and EQP_CNPJ are as long as a CPF and a CNPJ, but none
+        assert_eq!((*number("cpf"), *number("N of 11 digits")), (7, 1));
+        assert_eq!((*number("cnpj"), *number("N of 14 digits")), (7, 1));
         assert_eq!((*number("C at most 65536"), *number("N with 6 decimals")), (1, 10));
     }
 
@@ -269,6 +278,26 @@ mod tests {
         // H020's IND_DT is none, its DT_INV is one
         let h020 = row_with_code(b"H020").unwrap();
         assert_eq!((kind(h020, 2).role, kind(h020, 3).role), (Role::Plain, Role::Date));
+    }
+
+    /// As the sheets have them, looked up by hand.
+    #[test]
+    fn fields_with_check_digits() {
+        let with = |id: Id| -> Vec<(&str, usize)> {
+            let found = all_kinds().filter(|(_, _, kind)| kind.role == Role::Id(id));
+            found.map(|(row, field, _)| (row.code.as_str(), field)).collect()
+        };
+        let cnpjs = ["0000 6", "0100 4", "0150 5", "0465 4", "C550 3", "C600 3", "F225 4"];
+        let cpfs = ["0000 19", "0005 4", "0100 5", "0150 6", "0465 5", "C550 2", "C600 2"];
+        for (id, places, size) in [(Id::Cnpj, cnpjs, 14), (Id::Cpf, cpfs, 11)] {
+            let found = with(id).into_iter().map(|(code, field)| format!("{code} {field}"));
+            assert!(found.eq(places), "{id:?}");
+            let number = format!("N {size} -");
+            let kinds = distinct_kinds().into_keys().filter(|kind| kind.role == Role::Id(id));
+            assert_eq!(kinds.map(|kind| kind.columns()).collect::<Vec<_>>(), [number]);
+        }
+        assert_eq!(written("F205", 4), "EQP_CNPJ N 14 -");
+        assert_eq!(kind(row_with_code(b"F205").unwrap(), 4).role, Role::Plain);
     }
 
     #[test]

@@ -1,13 +1,16 @@
-//! All rules a byte can break, in the order of their numbers.
+//! All rules a byte can break, in the order of their numbers. Of those that
+//! speak of the bar after a field, request h puts 24 after 12.
 
-use crate::content::{untrue_count, wrong_characters, wrong_size, wrong_value};
+use crate::content::{
+    untrue_count, wrong_characters, wrong_check_digit, wrong_size, wrong_value,
+};
 use crate::place::{against_opening, one_too_many, out_of_place, unknown_code};
 use crate::shape::{bad_line_end, control_byte, field_too_many, fields_missing, no_first_bar};
 use crate::spot::Spot;
 
 type Rule = fn(&Spot) -> Option<usize>;
 
-const RULES: [(u8, Rule); 13] = [
+const RULES: [(u8, Rule); 14] = [
     (1, no_first_bar),
     (2, control_byte),
     (3, unknown_code),
@@ -21,6 +24,7 @@ const RULES: [(u8, Rule); 13] = [
     (11, wrong_size),
     (12, wrong_value),
     (13, untrue_count),
+    (24, wrong_check_digit),
 ];
 
 /// The lowest rule this byte breaks, and the field to name. After 9999's LF

@@ -1,4 +1,5 @@
-//! Every case of "Both sides of each rule" in document 01, starred or not.
+//! Every case of "Both sides of each rule" in document 01, starred or not, and
+//! those of request h in document 02.
 
 mod common;
 use common::*;
@@ -78,7 +79,18 @@ fn dates_and_sizes() {
     accepted(&base_field(1, 3, b"29022012"), 6);
     refused(&base_field(1, 3, b"29022011"), 12, 1, 3);
     refused(&base_field(1, 6, b"123456789000110"), 11, 1, 6);
-    accepted(&base_field(1, 6, b"12345678900011"), 6);
+    accepted(&base_field(1, 6, b"12345678900005"), 6);
+}
+
+#[test]
+fn check_digits() {
+    accepted(&base_field(1, 6, b"11222333000181"), 6);
+    refused(&base_field(1, 6, b"11222333000144"), 24, 1, 6);
+    // equal digits throughout go by the sums, and an empty field passes
+    accepted(&base_field(1, 6, &[b'0'; 14]), 6);
+    refused(&base_field(1, 6, &[b'1'; 14]), 24, 1, 6);
+    accepted(&base_field(1, 19, &[b'1'; 11]), 6);
+    accepted(&base_field(1, 19, b""), 6);
 }
 
 #[test]

@@ -1,4 +1,4 @@
-//! Points document 01 leaves to a decision, and neighbours of its cases.
+//! Points documents 01 and 02 leave to a decision, and neighbours of their cases.
 
 mod common;
 use common::*;
@@ -126,6 +126,72 @@ fn dates_are_numbers_of_size_8_first() {
     }
     for value in ["", "01011900", "31122099", "29022000"] {
         accepted(&base_field(1, 4, value.as_bytes()), 6);
+    }
+}
+
+#[test]
+fn cnpj_and_cpf_are_numbers_of_their_size_first() {
+    for (value, number) in [
+        ("1122233300018x", 10),
+        ("11222333000x81", 10),
+        ("1122233300018:", 10),
+        ("112223330001x", 10),
+        ("11.222.333/0001-81", 10),
+        ("1122233300018", 11),
+        ("112223330001810", 11),
+        ("011222333000181", 11),
+        ("52998224725", 11),
+        ("11222333000118", 24),
+        ("11222333000190", 24),
+        ("11222333000182", 24),
+        ("21222333000181", 24),
+    ] {
+        refused(&base_field(1, 6, value.as_bytes()), number, 1, 6);
+    }
+    // the last two are examples of the manual; document 01 lets the rule decide
+    for (value, number) in
+        [("11222333000181", 11), ("5299822472x", 10), ("88244044940", 24), ("00033344400", 24)]
+    {
+        refused(&base_field(1, 19, value.as_bytes()), number, 1, 19);
+    }
+    for value in ["52998224725", "12345678909", "00000000191"] {
+        accepted(&base_field(1, 19, value.as_bytes()), 6);
+    }
+}
+
+/// Block F down to a line of this code that holds a number in field 4.
+fn with_number_in_f(codes: &[(&str, usize)], last: &str) -> Vec<u8> {
+    let mut lines = upto_block("F");
+    lines.extend(codes.iter().map(|&(code, fields)| bare(code, fields)));
+    lines.push(last.to_string());
+    written(&lines)
+}
+
+#[test]
+fn names_decide_and_not_sizes() {
+    // NIRE has 11 digits, EQP_CNPJ 14
+    accepted(&base_field(1, 18, b"52998224724"), 6);
+    open(&with_number_in_f(&[("F200", 4)], "|F205|||11222333000144|||"), 6);
+    let above = [("F200", 4), ("F210", 3), ("F215", 12), ("F220", 8)];
+    let f225 = |number: &str| format!("|F225|||{number}||||||||||||");
+    open(&with_number_in_f(&above, &f225("11222333000181")), 9);
+    refused(&with_number_in_f(&above, &f225("11222333000144")), 24, 9, 4);
+}
+
+#[test]
+fn consumers_have_the_cpf_first() {
+    for code in ["C550", "C600"] {
+        let fields = if code == "C550" { 17 } else { 22 };
+        let rest = "|".repeat(fields - 2);
+        let with = |cpf: &str, cnpj: &str| {
+            let mut lines = upto_block("C");
+            lines.push(format!("|{code}|{cpf}|{cnpj}{rest}"));
+            written(&lines)
+        };
+        open(&with("52998224725", "11222333000181"), 5);
+        refused(&with("52998224724", "11222333000144"), 24, 5, 2);
+        refused(&with("52998224725", "11222333000144"), 24, 5, 3);
+        refused(&with("", "11222333000144"), 24, 5, 3);
     }
 }
 

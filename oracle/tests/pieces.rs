@@ -59,6 +59,29 @@ fn a_refusal_stays() {
     assert_eq!(checker.finish(), AFTER_FINISH);
 }
 
+/// Wherever the number is cut, 24 comes with its bar and not before, and holds
+/// as other refusals do.
+#[test]
+fn a_wrong_check_digit_stays() {
+    let bytes = base_field(1, 6, b"11222333000144");
+    let bar = bytes.windows(5).position(|bytes| bytes == b"0144|").unwrap() as u64 + 5;
+    let refusal = Answer::Refused { number: 24, line: 1, field: 6, lines: 0, bytes: bar };
+    for cut in 0..bytes.len() {
+        let mut checker = Checker::default();
+        let first = match (cut as u64) < bar {
+            true => Answer::Open { lines: 0, bytes: cut as u64 },
+            false => refusal,
+        };
+        assert_eq!(checker.piece(&bytes[..cut]), first);
+        assert_eq!(checker.piece(&bytes[cut..]), refusal);
+        assert_eq!(checker.piece(b""), refusal);
+        assert_eq!(checker.piece(&file(&BASE)), refusal);
+        assert_eq!(checker.finish(), refusal);
+        assert_eq!(checker.piece(b"|"), AFTER_FINISH);
+        assert_eq!(checker.finish(), AFTER_FINISH);
+    }
+}
+
 #[test]
 fn finish_that_gave_14_is_still_a_finish() {
     let mut checker = Checker::default();

@@ -1,7 +1,9 @@
 //! Values to try in a field of some kind, at both sides of its rules.
 
 use crate::generate::amounts::{good_amounts, near_amounts, other_bad_amounts};
+use crate::generate::ids::{good_ids, near_ids, other_bad_ids};
 use crate::kinds::{Kind, Role};
+use crate::Id;
 
 /// Added to a length so that a width of 8 bits would take it for the right one.
 const WRAP: usize = 256;
@@ -26,6 +28,7 @@ pub fn values(kind: Kind) -> Values {
         (Role::Date, ..) => dates(),
         (Role::Mark, ..) => marks(),
         (Role::Count, ..) => counts(),
+        (Role::Id(id), ..) => ids(id),
         _ if !kind.numeric => texts(kind.longest_text()),
         (_, Some(decimals), _) => amounts(decimals),
         (_, _, Some(size)) => numbers_of_size(size),
@@ -45,8 +48,14 @@ fn amounts(decimals: usize) -> Values {
     }
 }
 
+fn ids(id: Id) -> Values {
+    Values { good: good_ids(id), near: near_ids(id), others: other_bad_ids(id) }
+}
+
 fn numbers_of_size(size: usize) -> Values {
-    let good = [b'7', b'0', b'9'].map(|digit| vec![digit; size]).to_vec();
+    let mut good = [b'7', b'0', b'9'].map(|digit| vec![digit; size]).to_vec();
+    // no CNPJ nor CPF, where it is as long as one
+    good.push((b'1'..=b'9').cycle().take(size).collect());
     let mut near = vec![vec![b'1'; size + 1], with_byte(size, size / 2, b'x')];
     if size > 1 {
         near.push(vec![b'1'; size - 1]);

@@ -1,5 +1,5 @@
 //! What comes up of each kind of field: in how many cases one stood filled, in
-//! how many one stood empty, and in how many one was refused by 10, 11 or 12.
+//! how many one stood empty, and in how many one was refused by 10, 11, 12 or 24.
 
 use super::command::Command;
 use crate::kinds::{distinct_kinds, kind, Kind};
@@ -8,7 +8,7 @@ use crate::{verdict, Verdict, BAR, LF};
 use std::collections::{BTreeMap, BTreeSet};
 
 /// The refusals that go by the kind of a field. 13 goes by counts of lines.
-pub const BY_KIND: [u8; 3] = [10, 11, 12];
+pub const BY_KIND: [u8; 4] = [10, 11, 12, 24];
 
 /// What comes up of kinds in one case.
 #[derive(Default)]
@@ -123,8 +123,8 @@ impl KindTally {
 
     pub fn print(&self) {
         println!("kinds of fields, in cases:");
-        let columns = ["stood", "empty", "by 10", "by 11", "by 12"];
-        println!("  {:20}{:>7}{}", "", "fields", columns.map(|name| format!("{name:>8}")).concat());
+        let by_numbers = BY_KIND.map(|number| format!("{:>8}", format!("by {number}"))).concat();
+        println!("  {:20}{:>7}{:>8}{:>8}{by_numbers}", "", "fields", "stood", "empty");
         for (kind, fields) in distinct_kinds() {
             let cases = self.cases_of(&kind);
             let mut columns = shown(cases.filled, kind.can_be_filled());
@@ -160,8 +160,8 @@ mod tests {
         let met = met_in_file(&base());
         let kinds = ["C at most 255", "LFPD", "Brasil", "count", "mark", "date"];
         assert_eq!(names(&met.filled), kinds);
-        assert_eq!(met.empty.len(), 10);
-        assert!(names(&met.empty).contains(&"N of 14 digits".to_string()));
+        assert_eq!(met.empty.len(), 11);
+        assert!(names(&met.empty).contains(&"cnpj".to_string()));
         assert!(met.refused.is_none());
     }
 
@@ -211,7 +211,7 @@ mod tests {
         assert!(!missing.contains(&"mark never refused by 12".to_string()));
         assert!(missing.contains(&"mark never stood".to_string()));
         // LFPD, Brasil, a text and two dates stood, the mark was refused, and
-        // fields of ten kinds stood empty
-        assert_eq!(missing.len(), all.len() - 15);
+        // fields of eleven kinds stood empty
+        assert_eq!(missing.len(), all.len() - 16);
     }
 }

@@ -3,14 +3,14 @@
 use super::kind_tally::KindTally;
 
 /// Every refusal number that some case must end with.
-const NUMBERS: std::ops::RangeInclusive<usize> = 1..=15;
+const NUMBERS: [usize; 16] = [1, 2, 3, 4, 5, 6, 7, 8, 9, 10, 11, 12, 13, 14, 15, 24];
 
 #[derive(Default)]
 pub struct Outcome {
     pub cases: usize,
     pub answers: usize,
     /// Cases by the number of their finish; accepted ones at place 0.
-    pub finals: [usize; 16],
+    pub finals: [usize; 25],
     /// What came up of each kind of field, in cases without a difference.
     pub kinds: KindTally,
     /// From this many cases on, all that can come up of each kind must have.
@@ -34,14 +34,16 @@ impl Outcome {
     }
 
     fn missing(&self) -> Vec<usize> {
-        NUMBERS.filter(|&number| self.finals[number] == 0).collect()
+        NUMBERS.into_iter().filter(|&number| self.finals[number] == 0).collect()
     }
 
     pub fn print(&self) {
         println!("{} cases, {} answers compared", self.cases, self.answers);
         println!("final answers, in cases:");
         println!("  accepted   {:6}", self.finals[0]);
-        NUMBERS.for_each(|number| println!("  refused {number:2} {:6}", self.finals[number]));
+        for number in NUMBERS {
+            println!("  refused {number:2} {:6}", self.finals[number]);
+        }
         self.kinds.print();
         self.print_missing_kinds();
         if !self.missing().is_empty() {
@@ -74,7 +76,7 @@ mod tests {
 
     /// The outcome of that many cases, all answered rightly, with every number.
     fn outcome(cases: usize, cases_with_kinds: usize) -> Outcome {
-        Outcome { cases, cases_with_kinds, finals: [1; 16], ..Outcome::default() }
+        Outcome { cases, cases_with_kinds, finals: [1; 25], ..Outcome::default() }
     }
 
     #[test]

@@ -84,7 +84,7 @@ mod tests {
         wanted.extend((row.is_data() && row.limit.is_some()).then_some((6, place, 1)));
         for field in 2..=fields {
             let kind = kind(place, field as usize);
-            let numbers = (10..=13).filter(|&number| kind.can_be_refused_by(number));
+            let numbers = (10..=13).chain([24]).filter(|&number| kind.can_be_refused_by(number));
             wanted.extend(numbers.map(|number| (number, place, field)));
         }
         wanted

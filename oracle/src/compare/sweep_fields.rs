@@ -7,7 +7,7 @@ use super::field_values::{values, Values};
 use crate::generate::content_cases::edge_fields;
 use crate::generate::tree::{good_file_with, TIGHT};
 use crate::generate::Random;
-use crate::kinds::kind;
+use crate::kinds::{kind, Role};
 use crate::rows::rows;
 use std::collections::BTreeSet;
 
@@ -16,9 +16,11 @@ pub fn field_files(random: &mut Random) -> Vec<File> {
     let mut met = BTreeSet::new();
     for (turn, (row, field)) in edge_fields().into_iter().enumerate() {
         let kind = kind(row, field);
-        // all values at the first field of a kind in its block, a few at the others
+        // all values at the first field of a kind in its block, a few at the
+        // others, but all of them at each CNPJ and CPF, there being 14
         let first = met.insert((rows()[row].block(), kind));
-        let tried = tried_values(values(kind), first, turn);
+        let all = first || matches!(kind.role, Role::Id(_));
+        let tried = tried_values(values(kind), all, turn);
         files.extend(tried.iter().map(|value| with_value(random, row, field, value)));
     }
     files.extend(mark_files(random));
@@ -99,7 +101,7 @@ mod tests {
             let mut is_refused = |value: &Vec<u8>| {
                 let bytes = with_value(&mut random, row, field, value).bytes;
                 // a mark that stands may still be refused by 5 in the next line
-                matches!(finish(&bytes), Final::Refused { number: 10..=13, .. })
+                matches!(finish(&bytes), Final::Refused { number: 10..=13 | 24, .. })
             };
             assert!(near.iter().all(&mut is_refused), "{} {field}", rows()[row].code);
             assert!(!good.iter().any(&mut is_refused), "{} {field}", rows()[row].code);

@@ -1,4 +1,4 @@
-//! Files with one field at an edge (rules 10 to 12).
+//! Files with one field at an edge (rules 10 to 12 and 24).
 
 use super::draft::Draft;
 use super::edge_values::edge_value;
@@ -31,6 +31,17 @@ pub fn any_kind(random: &mut Random, room: usize) -> Vec<u8> {
 pub fn full_line(random: &mut Random, _room: usize) -> Vec<u8> {
     let (row, _) = *random.pick(&edge_fields());
     with_full_line(random, row).write()
+}
+
+/// A CNPJ or CPF, or a field that is as long as one.
+pub fn check_digits(random: &mut Random, room: usize) -> Vec<u8> {
+    let is_as_long = |&(row, field): &(usize, usize)| {
+        let kind = kind(row, field);
+        kind.numeric && matches!(kind.size, Some(11 | 14))
+    };
+    let fields: Vec<(usize, usize)> = edge_fields().into_iter().filter(is_as_long).collect();
+    let (row, field) = *random.pick(&fields);
+    with_field_at_edge(random, room, row, field)
 }
 
 /// Dates and fixed texts of 0000.
