@@ -104,6 +104,8 @@ mod tests {
     use super::*;
     use crate::compare::options::DEFAULT_CASES;
     use crate::compare::{expected_texts, LONGEST_PIECE};
+    use crate::kinds::{kind, places, Role};
+    use crate::rows::rows;
 
     fn cases() -> impl Iterator<Item = Case> {
         let plan = Plan::new(5);
@@ -156,6 +158,25 @@ mod tests {
         for way in ways {
             let count = texts.iter().filter(|text| text.ends_with(&format!("; {way}"))).count();
             assert!(count > 50, "{way}: {count}");
+        }
+    }
+
+    /// Sums must go on from one piece to the next, so that a CNPJ or CPF of each
+    /// row comes byte by byte.
+    #[test]
+    fn check_digits_are_cut_finely() {
+        let plan = Plan::new(5);
+        let fine = ["one byte pieces", "two pieces at every cut", "cut finely where it is decided"];
+        let is_fine = |about: &String| fine.iter().any(|way| about.ends_with(way));
+        let is_id = |&(row, field): &(usize, usize)| matches!(kind(row, field).role, Role::Id(_));
+        for (row, field) in places().filter(is_id) {
+            let start = format!("{} field {field}, ", rows()[row].code);
+            let of_field = |&number: &usize| {
+                plan.swept(number).is_some_and(|file| file.about.starts_with(&start))
+            };
+            let abouts = (0..plan.full()).filter(of_field).map(|number| plan.case(number).about);
+            let count = abouts.filter(is_fine).count();
+            assert!(count > 5, "{start}{count}");
         }
     }
 

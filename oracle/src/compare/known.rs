@@ -1,4 +1,5 @@
-//! The document's own list of cases, and cases of the rules it leaves out.
+//! The document's own list of cases, those of request h, and cases of the
+//! rules they leave out.
 
 use super::base::{
     base, base_field, base_until, base_with, block_start, block_start_with, file, written, File, BASE,
@@ -12,6 +13,8 @@ pub fn known_files() -> Vec<File> {
         amounts_and_dates(),
         rows_in_place(),
         other_rules(),
+        numbers_with_check_digits(),
+        other_fields_with_check_digits(),
     ]
     .concat()
 }
@@ -54,7 +57,7 @@ fn second_lines() -> Vec<File> {
 fn field_values() -> Vec<File> {
     let zeros = "0".repeat(300);
     let (true_count, untrue_count) = (format!("{zeros}3"), format!("1{zeros}3"));
-    let values: [(usize, usize, &[u8]); 24] = [
+    let values: [(usize, usize, &[u8]); 25] = [
         (1, 3, b"29022012"),
         (1, 3, b"29022011"),
         (1, 3, b"29021900"),
@@ -62,7 +65,8 @@ fn field_values() -> Vec<File> {
         (1, 3, b"2902201x"),
         (1, 3, b"2902201"),
         (1, 6, b"123456789000110"),
-        (1, 6, b"12345678900011"),
+        (1, 6, b"11222333000181"),
+        (1, 6, b"11222333000144"),
         (1, 5, &[b'n'; 255]),
         (1, 5, &[b'n'; 256]),
         (1, 2, b"LFPX"),
@@ -80,12 +84,84 @@ fn field_values() -> Vec<File> {
         (6, 2, b"262"),
         (1, 5, b"\x1f"),
     ];
-    let with = |(line, field, value): (usize, usize, &[u8])| {
-        let shown = value[..value.len().min(24)].escape_ascii();
-        let about = format!("Base line {line} field {field}, {} bytes: {shown}", value.len());
-        file(about, base_field(line, field, value))
+    values.map(|(line, field, value)| base_file(line, field, value)).to_vec()
+}
+
+/// Base with a field of a line replaced.
+fn base_file(line: usize, field: usize, value: &[u8]) -> File {
+    let shown = value[..value.len().min(24)].escape_ascii();
+    let about = format!("Base line {line} field {field}, {} bytes: {shown}", value.len());
+    file(about, base_field(line, field, value))
+}
+
+/// CNPJs and CPFs of 0000, and its NIRE, which is as long as a CPF.
+fn numbers_with_check_digits() -> Vec<File> {
+    let cnpjs = [
+        // equal digits
+        "00000000000000",
+        "11111111111111",
+        "77777777777777",
+        // the first sum leaves 2, 0 and 1
+        "00000000000191",
+        "33000167000101",
+        "12345678900005",
+        // the first check digit wrong and the second right for it, the second
+        // wrong, both in the wrong order
+        "11222333000190",
+        "11222333000182",
+        "11222333000118",
+        "1122233300018",
+        "112223330001810",
+        "011222333000181",
+        "1122233300018x",
+        "112223330001x",
+    ];
+    let cpfs = [
+        "52998224725",
+        "00000000000",
+        "11111111111",
+        "99999999999",
+        "12345678909",
+        "52998224733",
+        "52998224724",
+        "52998224752",
+        // the manual's examples, which break the rule
+        "88244044940",
+        "00033344400",
+        "5299822472x",
+        "052998224725",
+        "11222333000181",
+    ];
+    let nires = ["52998224725", "52998224724"];
+    let lists: [(usize, &[&str]); 3] = [(6, &cnpjs), (19, &cpfs), (18, &nires)];
+    let with = |field: usize| move |value: &&str| base_file(1, field, value.as_bytes());
+    lists.iter().flat_map(|&(field, values)| values.iter().map(with(field))).collect()
+}
+
+/// Wrong check digits in all other rows with a CNPJ or CPF, and in EQP_CNPJ,
+/// which is none.
+fn other_fields_with_check_digits() -> Vec<File> {
+    let f225 = ["F200", "F210", "F215", "F220", "F225"];
+    let rows: [(&[&str], usize, &str); 13] = [
+        (&["0005"], 4, "52998224724"),
+        (&["0100"], 4, "11222333000144"),
+        (&["0100"], 5, "52998224724"),
+        (&["0150"], 5, "11222333000144"),
+        (&["0150"], 6, "52998224724"),
+        (&["0450", "0465"], 4, "11222333000144"),
+        (&["0450", "0465"], 5, "52998224724"),
+        (&["C550"], 2, "52998224724"),
+        (&["C550"], 3, "11222333000144"),
+        (&["C600"], 2, "52998224724"),
+        (&["C600"], 3, "11222333000144"),
+        (&f225, 4, "11222333000144"),
+        (&["F200", "F205"], 4, "11222333000144"),
+    ];
+    let with = |(codes, field, value): (&[&str], usize, &str)| {
+        let about = format!("{} field {field}: {value}", codes.join(" "));
+        file(about, block_start_with(codes, field, value))
     };
-    values.map(with).to_vec()
+    rows.map(with).to_vec()
 }
 
 /// Amounts and dates in the first such fields of lines of two blocks.

@@ -19,6 +19,7 @@ mod outcome;
 mod run;
 mod sweep;
 mod sweep_bytes;
+mod sweep_check_digits;
 mod sweep_counts;
 mod sweep_fields;
 mod sweep_kinds;

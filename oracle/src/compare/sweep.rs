@@ -5,6 +5,7 @@ use super::base::File;
 use super::known::known_files;
 use super::long_files::{c300_files, long_files};
 use super::sweep_bytes::byte_files;
+use super::sweep_check_digits::check_digit_files;
 use super::sweep_counts::count_files;
 use super::sweep_fields::field_files;
 use super::sweep_kinds::kind_files;
@@ -32,6 +33,7 @@ fn other_files(random: &mut Random) -> Vec<File> {
     let mut others = [
         row_files(random),
         field_files(random),
+        check_digit_files(),
         count_files(random),
         place_files(random),
         long_files(),

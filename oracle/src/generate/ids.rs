@@ -30,6 +30,16 @@ fn ids_that_leave(id: Id, rest: usize) -> [Vec<u8>; 2] {
     })
 }
 
+/// For each pair of remainders a number that leaves them.
+pub fn ids_of_all_remainders(id: Id) -> Vec<Vec<u8>> {
+    let mut numbers = vec![None; 11 * 11];
+    for number in starts(id).map(|start| id.completed(&start)) {
+        let [first, second] = Way::right(id).remainders(&number);
+        numbers[first * 11 + second].get_or_insert(number);
+    }
+    numbers.into_iter().flatten().collect()
+}
+
 /// Digits for the start of a number, scattered, the same every time.
 fn starts(id: Id) -> impl Iterator<Item = Vec<u8>> {
     let mut random = Random::from_seed(11);
@@ -184,6 +194,13 @@ mod tests {
             assert!(good_ids(id).iter().all(|number| id.is_right(number)), "{id:?}");
             let bad = [near_ids(id), other_bad_ids(id)].concat();
             assert!(!bad.iter().any(|number| id.is_right(number)), "{id:?}");
+        }
+    }
+
+    #[test]
+    fn every_pair_of_remainders_comes() {
+        for id in [Id::Cnpj, Id::Cpf] {
+            assert_eq!(ids_of_all_remainders(id).len(), 121);
         }
     }
 
