@@ -52,6 +52,7 @@ fn the_oracle_equals_itself() {
     let last = text.lines().last().unwrap_or_default();
     assert!(last.starts_with("compare: 42000 cases, ") && last.ends_with(" answers, all equal"));
     assert!(text.contains("  N with 2 decimals ") && text.contains("  C at most 65536 "), "{text}");
+    assert!(text.contains("  cnpj ") && text.contains("  cpf "), "{text}");
     assert!(!keep.exists());
 }
 
@@ -71,7 +72,7 @@ fn short_runs_say_what_they_did_not_show() {
 #[test]
 fn every_fault_is_caught() {
     let faults = faults();
-    assert_eq!(faults.len(), 66);
+    assert_eq!(faults.len(), 84);
     for fault in faults.iter().filter(|fault| !SEEN_IN_LONG_RUNS.contains(&fault.as_str())) {
         assert_caught(fault, &["--cases", "500"]);
     }
@@ -79,9 +80,14 @@ fn every_fault_is_caught() {
 
 #[test]
 fn faults_are_caught_with_other_seeds() {
-    for (fault, seed) in
-        [("loses-cr", "2"), ("wraps-32", "3"), ("forgets-17", "4"), ("any-parent", "5")]
-    {
+    for (fault, seed) in [
+        ("loses-cr", "2"),
+        ("wraps-32", "3"),
+        ("forgets-17", "4"),
+        ("any-parent", "5"),
+        ("second-check-digit-only", "6"),
+        ("remainder-at-most-2", "7"),
+    ] {
         assert_caught(fault, &["--cases", "500", "--seed", seed]);
     }
 }
@@ -102,6 +108,18 @@ fn kinds_that_do_not_come_up_are_named() {
     let text = text(&output);
     assert!(text.contains("FAILURE: N with 3 decimals never refused by 10"), "{text}");
     assert!(!text.contains("N with 2 decimals never"), "{text}");
+}
+
+#[test]
+fn check_digits_that_are_never_refused_are_named() {
+    for (fault, named) in [("any-check-digits", "cnpj"), ("any-check-digits-in-cpf", "cpf")] {
+        let program = format!("{STAND_IN} {fault}");
+        let output = compare(&program, &kept(&format!("{fault}-named")), &["--cases", "600"]);
+        assert_eq!(output.status.code(), Some(1));
+        let text = text(&output);
+        assert!(text.contains(&format!("FAILURE: {named} never refused by 24")), "{text}");
+        assert!(!text.contains("cnpj never stood") && !text.contains("N of 14 digits never"));
+    }
 }
 
 /// What is kept of a case shows the fault when it is fed again.
@@ -170,7 +188,7 @@ fn stored_batches() {
     let (again, same) = store("other");
     assert_eq!((fs::read(&commands).unwrap(), answers.clone()), (fs::read(again).unwrap(), same));
     let text = String::from_utf8(answers).unwrap();
-    for number in 1..=15 {
+    for number in (1..=15).chain([24]) {
         assert!(text.contains(&format!("\nrefused {number} ")), "{number}");
     }
     assert!(text.contains("\naccepted "));

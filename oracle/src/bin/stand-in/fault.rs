@@ -1,6 +1,8 @@
 //! The faults, each the honest behaviour with one thing other.
 
-use crate::{counts, forgives, forgives_fields, joins, refuses_fields, says, sees};
+use crate::{
+    check_digits, counts, forgives, forgives_fields, joins, refuses_fields, says, sees,
+};
 use oracle::Answer;
 
 pub struct Fault {
@@ -60,7 +62,7 @@ const fn numbering(name: &'static str, numbers: fn(&[u8], Answer, bool) -> (u64,
     Fault { name, numbers, ..NONE }
 }
 
-pub const FAULTS: [Fault; 61] = [
+pub const FAULTS: [Fault; 79] = [
     joining("loses-cr", joins::without_last_cr),
     joining("loses-cr-at-empty-piece", joins::cr_lost_at_empty_piece),
     joining("loses-code", joins::code_lost),
@@ -97,6 +99,24 @@ pub const FAULTS: [Fault; 61] = [
     saying("refuses-text-over-255", refuses_fields::text_over_255),
     saying("refuses-amount-over-20-digits", refuses_fields::amount_over_20_digits),
     saying("refuses-other-than-two-decimals", refuses_fields::other_than_two_decimals),
+    saying("any-check-digits", check_digits::forgiven_all),
+    saying("any-check-digits-in-cpf", check_digits::forgiven_in_cpf),
+    saying("any-check-digits-after-0000", check_digits::forgiven_after_0000),
+    saying("any-equal-digits", check_digits::equal_digits_forgiven),
+    saying("first-check-digit-only", check_digits::first_only),
+    saying("second-check-digit-only", check_digits::second_only),
+    saying("remainder-at-most-2", check_digits::at_most_2),
+    saying("remainder-0-gives-1", check_digits::remainder_0_gives_1),
+    saying("remainder-1-refused", check_digits::remainder_1_refused),
+    saying("second-s-weights-for-first", check_digits::second_s_weights_for_first),
+    saying("refuses-empty-id", check_digits::empty_refused),
+    saying("refuses-equal-digits", check_digits::equal_digits_refused),
+    saying("judges-eqp-cnpj", check_digits::eqp_cnpj_judged),
+    saying("judges-nire", check_digits::nire_judged),
+    saying("24-before-11", check_digits::before_size),
+    saying("24-before-10", check_digits::before_characters),
+    saying("24-names-no-field", check_digits::names_no_field),
+    saying("24-does-not-hold", check_digits::does_not_hold),
     saying("lf-after-bar-is-2", says::lf_after_bar_is_2),
     saying("control-after-fields-is-2", says::control_after_fields_is_2),
     saying("byte-26-at-end", forgives::byte_26_at_end),

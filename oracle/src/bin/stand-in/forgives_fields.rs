@@ -7,13 +7,13 @@ use oracle::rows::row_with_code;
 use oracle::{Answer, BAR};
 
 /// A field that was refused.
-struct Refused<'a> {
-    code: &'a [u8],
-    kind: Kind,
-    text: &'a [u8],
+pub struct Refused<'a> {
+    pub code: &'a [u8],
+    pub kind: Kind,
+    pub text: &'a [u8],
 }
 
-fn refused_field<'a>(all: &'a [u8], answer: &Answer, wanted: u8) -> Option<Refused<'a>> {
+pub fn refused_field<'a>(all: &'a [u8], answer: &Answer, wanted: u8) -> Option<Refused<'a>> {
     let Answer::Refused { field, .. } = *answer else {
         return None;
     };
@@ -23,7 +23,12 @@ fn refused_field<'a>(all: &'a [u8], answer: &Answer, wanted: u8) -> Option<Refus
     Some(Refused { code, kind: kind(row_with_code(code)?, field as usize), text })
 }
 
-fn forgive(all: &[u8], answer: Answer, number: u8, when: fn(&Refused) -> bool) -> Answer {
+pub fn forgive(
+    all: &[u8],
+    answer: Answer,
+    number: u8,
+    when: impl Fn(&Refused) -> bool,
+) -> Answer {
     match refused_field(all, &answer, number) {
         Some(refused) if when(&refused) => forgiven(all),
         _ => answer,

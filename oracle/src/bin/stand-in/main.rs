@@ -2,6 +2,7 @@
 //! comparison itself. It answers with the oracle's own checker, or with a
 //! fault planted. `stand-in --faults` lists the faults.
 
+mod check_digits;
 mod counts;
 mod fault;
 mod faulty;

@@ -5,17 +5,17 @@ use oracle::kinds::{kind, Kind};
 use oracle::rows::{row_with_code, rows};
 use oracle::{Answer, BAR, LF};
 
-type Field<'a> = (Kind, &'a [u8]);
+pub type Field<'a> = (Kind, &'a [u8]);
 
 /// Refuses at the end of the first field of these that was not refused.
-fn refuse(all: &[u8], answer: Answer, number: u8, when: fn(Field) -> bool) -> Answer {
+pub fn refuse(all: &[u8], answer: Answer, number: u8, when: impl Fn(Field) -> bool) -> Answer {
     let judged = match answer {
         Answer::Refused { bytes, .. } => (bytes as usize).saturating_sub(1),
         _ => all.len(),
     };
     let mut start = 0;
     for (lines, line) in all[..judged].split_inclusive(|&byte| byte == LF).enumerate() {
-        if let Some((field, length)) = first_field(line, when) {
+        if let Some((field, length)) = first_field(line, &when) {
             return refusal(number, lines as u64, field as u64, (start + length) as u64);
         }
         start += line.len();
@@ -25,7 +25,7 @@ fn refuse(all: &[u8], answer: Answer, number: u8, when: fn(Field) -> bool) -> An
 
 /// The number of the first of these fields, and how far the line goes up to
 /// and with the bar after it.
-fn first_field(line: &[u8], when: fn(Field) -> bool) -> Option<(usize, usize)> {
+fn first_field(line: &[u8], when: impl Fn(Field) -> bool) -> Option<(usize, usize)> {
     let row = row_with_code(line.get(1..5)?).filter(|_| line.get(5) == Some(&BAR))?;
     let mut length = 6;
     for field in 2..=rows()[row].fields {

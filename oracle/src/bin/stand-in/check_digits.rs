@@ -1,0 +1,171 @@
+//! Check digits judged wrongly. What is right and what is not is worked out
+//! here anew, so that the files are not made from the faults they must show.
+
+use crate::forgives_fields::{forgive, refused_field};
+use crate::refuses_fields::refuse;
+use crate::says::{forgiven, refusal};
+use oracle::kinds::{Kind, Role};
+use oracle::{Answer, Id};
+
+/// The weights for the second check digit; the first's are those after the
+/// first of them.
+fn weights(id: Id) -> &'static [u32] {
+    match id {
+        Id::Cnpj => &[6, 5, 4, 3, 2, 9, 8, 7, 6, 5, 4, 3, 2],
+        Id::Cpf => &[11, 10, 9, 8, 7, 6, 5, 4, 3, 2],
+    }
+}
+
+fn remainder(digits: &[u8], weights: &[u32]) -> u32 {
+    let product = |(digit, weight): (&u8, &u32)| u32::from(digit - b'0') * weight;
+    digits.iter().zip(weights).map(product).fold(0, |rest, product| (rest + product) % 11)
+}
+
+fn right_digit(rest: u32) -> u32 {
+    (11 - rest) % 11 % 10
+}
+
+type Digit = fn(u32) -> u32;
+
+fn first_is_right(id: Id, text: &[u8], digit: Digit) -> bool {
+    let at = text.len() - 2;
+    digit(remainder(&text[..at], &weights(id)[1..])) == u32::from(text[at] - b'0')
+}
+
+fn second_is_right(id: Id, text: &[u8], digit: Digit) -> bool {
+    let at = text.len() - 1;
+    digit(remainder(&text[..at], weights(id))) == u32::from(text[at] - b'0')
+}
+
+fn are_right(id: Id, text: &[u8], digit: Digit) -> bool {
+    first_is_right(id, text, digit) && second_is_right(id, text, digit)
+}
+
+fn id_of(kind: Kind) -> Option<Id> {
+    match kind.role {
+        Role::Id(id) => Some(id),
+        _ => None,
+    }
+}
+
+/// Each CNPJ and CPF is judged by this alone, be it right or wrong.
+fn judged(all: &[u8], answer: Answer, is_right: fn(Id, &[u8]) -> bool) -> Answer {
+    let answer = refuse(all, answer, 24, |(kind, text)| {
+        !text.is_empty() && id_of(kind).is_some_and(|id| !is_right(id, text))
+    });
+    forgive(all, answer, 24, |refused| {
+        id_of(refused.kind).is_some_and(|id| is_right(id, refused.text))
+    })
+}
+
+pub fn first_only(all: &[u8], answer: Answer) -> Answer {
+    judged(all, answer, |id, text| first_is_right(id, text, right_digit))
+}
+
+pub fn second_only(all: &[u8], answer: Answer) -> Answer {
+    judged(all, answer, |id, text| second_is_right(id, text, right_digit))
+}
+
+/// "Below 2" taken for "at most 2".
+pub fn at_most_2(all: &[u8], answer: Answer) -> Answer {
+    judged(all, answer, |id, text| {
+        are_right(id, text, |rest| if rest <= 2 { 0 } else { 11 - rest })
+    })
+}
+
+/// 11 is cut to its last digit as 10 is.
+pub fn remainder_0_gives_1(all: &[u8], answer: Answer) -> Answer {
+    judged(all, answer, |id, text| are_right(id, text, |rest| (11 - rest) % 10))
+}
+
+/// 10 is no digit, so that no number with it is right.
+pub fn remainder_1_refused(all: &[u8], answer: Answer) -> Answer {
+    judged(all, answer, |id, text| are_right(id, text, |rest| (11 - rest) % 11))
+}
+
+pub fn second_s_weights_for_first(all: &[u8], answer: Answer) -> Answer {
+    judged(all, answer, |id, text| {
+        let at = text.len() - 2;
+        let first = right_digit(remainder(&text[..at], weights(id)));
+        first == u32::from(text[at] - b'0') && second_is_right(id, text, right_digit)
+    })
+}
+
+pub fn forgiven_all(all: &[u8], answer: Answer) -> Answer {
+    forgive(all, answer, 24, |_| true)
+}
+
+pub fn forgiven_in_cpf(all: &[u8], answer: Answer) -> Answer {
+    forgive(all, answer, 24, |refused| id_of(refused.kind) == Some(Id::Cpf))
+}
+
+pub fn forgiven_after_0000(all: &[u8], answer: Answer) -> Answer {
+    forgive(all, answer, 24, |refused| refused.code != b"0000")
+}
+
+/// A wrong number is taken for right where all its digits are equal.
+pub fn equal_digits_forgiven(all: &[u8], answer: Answer) -> Answer {
+    forgive(all, answer, 24, |refused| is_one_digit(refused.text))
+}
+
+pub fn equal_digits_refused(all: &[u8], answer: Answer) -> Answer {
+    refuse(all, answer, 24, |(kind, text)| id_of(kind).is_some() && is_one_digit(text))
+}
+
+fn is_one_digit(text: &[u8]) -> bool {
+    !text.is_empty() && text.iter().all(|digit| *digit == text[0])
+}
+
+pub fn empty_refused(all: &[u8], answer: Answer) -> Answer {
+    refuse(all, answer, 24, |(kind, text)| id_of(kind).is_some() && text.is_empty())
+}
+
+/// EQP_CNPJ is the only other field of 14 digits.
+pub fn eqp_cnpj_judged(all: &[u8], answer: Answer) -> Answer {
+    judged_by_size(all, answer, 14, Id::Cnpj)
+}
+
+/// NIRE is the only other field of 11 digits.
+pub fn nire_judged(all: &[u8], answer: Answer) -> Answer {
+    judged_by_size(all, answer, 11, Id::Cpf)
+}
+
+fn judged_by_size(all: &[u8], answer: Answer, size: usize, id: Id) -> Answer {
+    refuse(all, answer, 24, |(kind, text)| {
+        let is_other = kind.role == Role::Plain && kind.numeric && kind.size == Some(size);
+        is_other && !text.is_empty() && !are_right(id, text, right_digit)
+    })
+}
+
+/// 24 goes before 11.
+pub fn before_size(all: &[u8], answer: Answer) -> Answer {
+    before(all, answer, 11)
+}
+
+/// 24 goes before 10.
+pub fn before_characters(all: &[u8], answer: Answer) -> Answer {
+    before(all, answer, 10)
+}
+
+fn before(all: &[u8], answer: Answer, other: u8) -> Answer {
+    let refused = refused_field(all, &answer, other);
+    match (answer, refused.and_then(|refused| id_of(refused.kind))) {
+        (Answer::Refused { field, lines, bytes, .. }, Some(_)) => refusal(24, lines, field, bytes),
+        _ => answer,
+    }
+}
+
+pub fn names_no_field(_: &[u8], answer: Answer) -> Answer {
+    match answer {
+        Answer::Refused { number: 24, lines, bytes, .. } => refusal(24, lines, 0, bytes),
+        answer => answer,
+    }
+}
+
+/// 24 is forgotten as soon as another byte comes.
+pub fn does_not_hold(all: &[u8], answer: Answer) -> Answer {
+    match answer {
+        Answer::Refused { number: 24, bytes, .. } if bytes < all.len() as u64 => forgiven(all),
+        answer => answer,
+    }
+}
