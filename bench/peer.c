@@ -197,6 +197,7 @@ enum stage {
     IN_DECIMALS = DECIMALS,
     IN_MARK = MARK,
     IN_DATE = DATE,
+    IN_CHECKED = CHECKED,
     IN_COUNT = COUNT,
     LINE_START,
     CODE,
@@ -219,6 +220,7 @@ struct checker {
     uint64_t value; /* of its digits, see VALUE_FULL */
     uint64_t comma; /* the length with the comma, 0 before it comes */
     bool wrong;     /* bytes that may not stand there have come */
+    uint8_t digits[CNPJ_SIZE]; /* of a CNPJ or CPF */
 
     /* the line in hand, its open lines by level, and its block */
     const struct row *row;
@@ -361,6 +363,48 @@ static bool is_date(uint32_t value)
     return day >= 1 && day <= last;
 }
 
+/* What the digits before a check digit ask it to be, by their weighted sum. */
+static unsigned check_digit(unsigned sum)
+{
+    unsigned rest = sum % 11;
+    return rest < 2 ? 0 : 11 - rest;
+}
+
+/*
+ * The weights are those for the second check digit, and a 0. A digit's weight
+ * for the first one is the weight behind its own. Both sums are made at once,
+ * the second 16 bits higher.
+ */
+static inline bool has_check_digits(const uint8_t *digits, const uint8_t *weights, unsigned size)
+{
+    uint32_t sums = 0, of_zeros = 0;
+    for (unsigned i = 0; i < size - 1; i++) {
+        uint32_t both = (uint32_t)weights[i] << 16 | weights[i + 1];
+        sums += digits[i] * both;
+        of_zeros += '0' * both;
+    }
+    sums -= of_zeros;
+    return digits[size - 2] == '0' + check_digit(sums & 0xFFFF) &&
+           digits[size - 1] == '0' + check_digit(sums >> 16);
+}
+
+static inline bool is_cnpj(const uint8_t *digits)
+{
+    static const uint8_t weights[CNPJ_SIZE] = {6, 5, 4, 3, 2, 9, 8, 7, 6, 5, 4, 3, 2, 0};
+    return has_check_digits(digits, weights, CNPJ_SIZE);
+}
+
+static inline bool is_cpf(const uint8_t *digits)
+{
+    static const uint8_t weights[CPF_SIZE] = {11, 10, 9, 8, 7, 6, 5, 4, 3, 2, 0};
+    return has_check_digits(digits, weights, CPF_SIZE);
+}
+
+static inline bool is_checked(const uint8_t *digits, uint32_t size)
+{
+    return size == CNPJ_SIZE ? is_cnpj(digits) : is_cpf(digits);
+}
+
 /* The bar after a field: the number of the rule it breaks, or 0. */
 
 static unsigned judge_text(const struct checker *c)
@@ -404,6 +448,12 @@ static unsigned judge_date(const struct checker *c)
     return number == 0 && c->length != 0 && !is_date((uint32_t)c->value) ? 12 : number;
 }
 
+static unsigned judge_checked(const struct checker *c)
+{
+    unsigned number = judge_digits(c);
+    return number == 0 && c->length != 0 && !is_checked(c->digits, c->kind->size) ? 24 : number;
+}
+
 static unsigned judge_count(const struct checker *c)
 {
     if (c->wrong)
@@ -426,6 +476,8 @@ static unsigned judge_field(struct checker *c)
         return judge_mark(c);
     case DATE:
         return judge_date(c);
+    case CHECKED:
+        return judge_checked(c);
     default:
         return judge_count(c);
     }
@@ -475,6 +527,18 @@ static place take_decimals(struct checker *c, place from, place end)
             c->comma = c->length + (uint64_t)(at - from) + 1;
         else
             c->wrong = true;
+    }
+    return at;
+}
+
+static place take_checked(struct checker *c, place at, place end)
+{
+    uint64_t length = c->length;
+    for (; at != end && !special[*at]; at++, length++) {
+        if (!digit[*at])
+            c->wrong = true;
+        else if (length < CNPJ_SIZE)
+            c->digits[length] = *at;
     }
     return at;
 }
@@ -545,6 +609,12 @@ static place pass_date(place from, uint32_t size)
     return at == from || (at - from == size && is_date(value)) ? at : NULL;
 }
 
+static place pass_checked(place from, uint32_t size)
+{
+    place bar = pass_digits(from, size);
+    return bar == NULL || bar == from || is_checked(from, size) ? bar : NULL;
+}
+
 /* Two decimals are so frequent that they get a loop of their own. */
 static place pass_field(const struct kind *kind, place at)
 {
@@ -554,7 +624,9 @@ static place pass_field(const struct kind *kind, place at)
         return pass_digits(at, kind->size);
     if (kind->form == TEXT)
         return pass_text(at, kind->size);
-    return kind->form == DATE ? pass_date(at, kind->size) : NULL;
+    if (kind->form == DATE)
+        return pass_date(at, kind->size);
+    return kind->form == CHECKED ? pass_checked(at, kind->size) : NULL;
 }
 
 /* ------------------------------------------------------------------ lines */
@@ -711,6 +783,9 @@ static enum stage go_on(struct checker *c, enum stage stage, place *at, place en
         return line_feed(c, at);
     case FILE_END:
         return file_end(c, at);
+    case IN_CHECKED:
+        to = take_checked(c, *at, end);
+        break;
     default:
         to = take_value(c, *at, end);
     }

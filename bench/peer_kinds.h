@@ -1,7 +1,8 @@
 /*
  * What the fields of the 98 rows hold, from field 2 on, as the sheets of
- * Appendix B say it in their columns type, size and decimals. 2.6.1 says how
- * many fields a row has; one that no sheet gives is C without a size.
+ * Appendix B say it in their columns type, size and decimals; a name that
+ * begins DT_, CNPJ or CPF says more. 2.6.1 says how many fields a row has; one
+ * that no sheet gives is C without a size.
  */
 #ifndef PEER_KINDS_H
 #define PEER_KINDS_H
@@ -9,11 +10,15 @@
 #include <stddef.h>
 #include <stdint.h>
 
-enum form { TEXT, FIXED, DIGITS, DECIMALS, MARK, DATE, COUNT };
+enum form { TEXT, FIXED, DIGITS, DECIMALS, MARK, DATE, CHECKED, COUNT };
+
+#define CNPJ_SIZE 14
+#define CPF_SIZE 11
 
 /*
- * The size is the most bytes of TEXT, the bytes of FIXED, MARK and DATE and of
- * DIGITS (0: any number), and for DECIMALS the digits after the comma.
+ * The size is the most bytes of TEXT, the bytes of FIXED, MARK, DATE and
+ * CHECKED and of DIGITS (0: any number), and for DECIMALS the digits after the
+ * comma. The last two digits of CHECKED are made from those before.
  */
 struct kind {
     uint8_t form;
@@ -27,17 +32,19 @@ struct kind {
 #define N_ANY {DIGITS, 0, NULL}
 #define D(decimals) {DECIMALS, decimals, NULL}
 #define DT {DATE, 8, NULL}
+#define CNPJ {CHECKED, CNPJ_SIZE, NULL}
+#define CPF {CHECKED, CPF_SIZE, NULL}
 #define SAYS(size, text) {FIXED, size, text}
 
 static const struct kind opening[] = {{MARK, 1, NULL}};
 static const struct kind closing[] = {{COUNT, 0, NULL}};
 
 static const struct kind kinds_0000[] = {
-    SAYS(4, "LFPD"), DT, DT, C_255, N(14), C(2), C_255, N(7), C_255, C(0),
-    C(9), N(4), N(1), N(2), SAYS(6, "Brasil"), C_255, N(11), N(11), C(0),
+    SAYS(4, "LFPD"), DT, DT, C_255, CNPJ, C(2), C_255, N(7), C_255, C(0),
+    C(9), N(4), N(1), N(2), SAYS(6, "Brasil"), C_255, N(11), CPF, C(0),
 };
 static const struct kind kinds_0005[] = {
-    C_255, N(3), N(11), N(8), C_255, C_255, C_255, C_255, N(8), N_ANY,
+    C_255, N(3), CPF, N(8), C_255, C_255, C_255, C_255, N(8), N_ANY,
     C_255, C_255, C_255,
 };
 static const struct kind kinds_0025[] = {C(5), C(5)};
@@ -46,11 +53,11 @@ static const struct kind kinds_0030[] = {
     N(1), N(1), N(1), N(1), N(1), N(1), N(1),
 };
 static const struct kind kinds_0100[] = {
-    C_255, N(3), N(14), N(11), C(10), N(8), C_255, C_255, C_255, C_255,
+    C_255, N(3), CNPJ, CPF, C(10), N(8), C_255, C_255, C_255, C_255,
     C(2), N(7), N(8), N_ANY, C_255, C_255, C_255,
 };
 static const struct kind kinds_0150[] = {
-    C_255, C_255, N(5), N(14), N(11), C(0), C(2), C_255, C_255, N(7),
+    C_255, C_255, N(5), CNPJ, CPF, C(0), C(2), C_255, C_255, N(7),
     C_255, C(9),
 };
 static const struct kind kinds_0175[] = {
@@ -70,7 +77,7 @@ static const struct kind kinds_0460[] = {
     D(2), D(2), D(2), DT, C_255,
 };
 static const struct kind kinds_0465[] = {
-    N(1), N(1), N(14), N(11), C(2), C_255, N(7), C_255, C(2), N(2),
+    N(1), N(1), CNPJ, CPF, C(2), C_255, N(7), C_255, C(2), N(2),
     C_255, N_ANY, C(45), N_ANY, DT, D(2), D(2), D(2), D(2), D(2),
     D(2), D(2), D(2),
 };
@@ -93,7 +100,7 @@ static const struct kind kinds_C305[] = {C_255};
 /* The sheet has a fifth field, VL_ISS_I. */
 static const struct kind kinds_C310[] = {N(2), D(2), D(2)};
 static const struct kind kinds_C550[] = {
-    N(11), N(14), C(2), N(2), C_255, N_ANY, N_ANY, DT, C(4), D(2),
+    CPF, CNPJ, C(2), N(2), C_255, N_ANY, N_ANY, DT, C(4), D(2),
     D(2), D(2), D(2), D(2), D(2), C_255,
 };
 static const struct kind kinds_C560[] = {
@@ -101,7 +108,7 @@ static const struct kind kinds_C560[] = {
     D(2), D(2), D(2),
 };
 static const struct kind kinds_C600[] = {
-    N(11), N(14), C(2), N(2), N_ANY, C(20), N_ANY, N_ANY, N_ANY, DT,
+    CPF, CNPJ, C(2), N(2), N_ANY, C(20), N_ANY, N_ANY, N_ANY, DT,
     C(4), D(2), D(2), D(2), D(2), D(2), D(2), D(2), D(2), D(2),
     D(2),
 };
@@ -207,6 +214,7 @@ static const struct kind kinds_F035[] = {
     C(2), C_255, N_ANY, DT, N_ANY, N_ANY, N_ANY, N_ANY, C_255,
 };
 static const struct kind kinds_F200[] = {N(1), DT, DT};
+/* EQP_CNPJ is a name that does not begin CNPJ. */
 static const struct kind kinds_F205[] = {C_255, C_255, N(14), C_255, N(1)};
 static const struct kind kinds_F210[] = {C_255, C_255};
 static const struct kind kinds_F215[] = {
@@ -217,7 +225,7 @@ static const struct kind kinds_F220[] = {
     C_255, D(3), D(3), D(3), D(3), D(3), D(3),
 };
 static const struct kind kinds_F225[] = {
-    N(1), N(1), N(14), C(2), C_255, C(2), C_255, N_ANY, DT, D(2),
+    N(1), N(1), CNPJ, C(2), C_255, C(2), C_255, N_ANY, DT, D(2),
     D(2), D(2), D(3), C_255,
 };
 static const struct kind kinds_F230[] = {C_255, C_255, N_ANY, N_ANY, D(2)};
