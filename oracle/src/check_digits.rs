@@ -4,18 +4,18 @@
 
 /// A number that ends with two check digits.
 #[derive(Clone, Copy, Debug, PartialEq, Eq, PartialOrd, Ord)]
-pub enum Id {
+pub enum CheckedNumber {
     Cnpj,
     Cpf,
 }
 
-impl Id {
+impl CheckedNumber {
     /// The one that a field of this name holds, if it holds one. A name that
     /// has it further on, as EQP_CNPJ has, does not count.
-    pub fn in_field_named(name: &str) -> Option<Id> {
+    pub fn in_field_named(name: &str) -> Option<CheckedNumber> {
         match name {
-            _ if name.starts_with("CNPJ") => Some(Id::Cnpj),
-            _ if name.starts_with("CPF") => Some(Id::Cpf),
+            _ if name.starts_with("CNPJ") => Some(CheckedNumber::Cnpj),
+            _ if name.starts_with("CPF") => Some(CheckedNumber::Cpf),
             _ => None,
         }
     }
@@ -24,8 +24,8 @@ impl Id {
     /// front of these for the second.
     fn weights(self) -> (&'static [u32], u32) {
         match self {
-            Id::Cnpj => (&[5, 4, 3, 2, 9, 8, 7, 6, 5, 4, 3, 2], 6),
-            Id::Cpf => (&[10, 9, 8, 7, 6, 5, 4, 3, 2], 11),
+            CheckedNumber::Cnpj => (&[5, 4, 3, 2, 9, 8, 7, 6, 5, 4, 3, 2], 6),
+            CheckedNumber::Cpf => (&[10, 9, 8, 7, 6, 5, 4, 3, 2], 11),
         }
     }
 
@@ -62,26 +62,8 @@ fn check_digit(digits: &[u8], weights: &[u32]) -> u8 {
 
 #[cfg(test)]
 mod tests {
-    use super::Id::{self, Cnpj, Cpf};
-
-    /// Another way: counted from the right, where the check digit itself has
-    /// weight 1, the weights are 2, 3, 4 and on, for a CNPJ from 9 back to 2.
-    /// The whole sum is then a multiple of 11. Only where that would take a
-    /// digit 10, the digit is 0 and the sum one more than a multiple.
-    fn ends_rightly(id: Id, digits: &[u8]) -> bool {
-        let weight = |from_right: usize| match (id, from_right) {
-            (_, 0) => 1,
-            (Cnpj, _) => 2 + (from_right - 1) % 8,
-            (Cpf, _) => 1 + from_right,
-        };
-        let from_right = digits.iter().rev().enumerate();
-        let sum: usize = from_right.map(|(at, digit)| weight(at) * usize::from(digit - b'0')).sum();
-        sum % 11 == 0 || (sum % 11 == 1 && digits.ends_with(b"0"))
-    }
-
-    fn is_right_in_another_way(id: Id, number: &[u8]) -> bool {
-        ends_rightly(id, &number[..number.len() - 1]) && ends_rightly(id, number)
-    }
+    use super::CheckedNumber::{self, Cnpj, Cpf};
+    use crate::another_way::is_right_in_another_way;
 
     /// Of 112223330001 the sum is 5+4+6+4+18+24+21+18+0+0+0+2 = 102, which
     /// leaves 3, so 8. Of 1122233300018 it is 6+5+8+6+4+27+24+21+0+0+0+3+16 =
@@ -137,16 +119,20 @@ mod tests {
         }
     }
 
+    /// `is_right` asks `completed`, so that the two agree whatever they take
+    /// for right. Which pair it is must come from elsewhere.
     #[test]
     fn one_pair_of_check_digits_is_right() {
-        for id in [Cnpj, Cpf] {
+        for checked in [Cnpj, Cpf] {
             for turn in 0..3000_u64 {
-                let scattered = turn * 999_999_937 % 10_u64.pow(id.digits_before() as u32);
-                let start = format!("{scattered:0width$}", width = id.digits_before());
+                let scattered = turn * 999_999_937 % 10_u64.pow(checked.digits_before() as u32);
+                let start = format!("{scattered:0width$}", width = checked.digits_before());
                 let pairs = (0..100).map(|pair| format!("{start}{pair:02}").into_bytes());
-                let right: Vec<Vec<u8>> = pairs.filter(|number| id.is_right(number)).collect();
-                assert_eq!(right, [id.completed(start.as_bytes())]);
-                assert!(is_right_in_another_way(id, &right[0]), "{start}");
+                let (right, wrong): (Vec<Vec<u8>>, Vec<Vec<u8>>) =
+                    pairs.partition(|number| is_right_in_another_way(checked, number));
+                assert_eq!(right, [checked.completed(start.as_bytes())]);
+                assert!(checked.is_right(&right[0]), "{start}");
+                assert!(!wrong.iter().any(|number| checked.is_right(number)), "{start}");
             }
         }
     }
@@ -161,8 +147,8 @@ mod tests {
 
     #[test]
     fn names_of_fields() {
-        assert_eq!(Id::in_field_named("CNPJ"), Some(Cnpj));
-        assert_eq!(Id::in_field_named("CPF_RESP"), Some(Cpf));
-        assert_eq!(Id::in_field_named("EQP_CNPJ"), None);
+        assert_eq!(CheckedNumber::in_field_named("CNPJ"), Some(Cnpj));
+        assert_eq!(CheckedNumber::in_field_named("CPF_RESP"), Some(Cpf));
+        assert_eq!(CheckedNumber::in_field_named("EQP_CNPJ"), None);
     }
 }

@@ -32,7 +32,7 @@ pub fn wrong_value(spot: &Spot) -> Option<usize> {
         Role::Fixed(text) => spot.text != text.as_bytes(),
         Role::Mark => spot.text != b"0" && spot.text != b"1",
         Role::Date => !spot.text.is_empty() && !is_date(spot.text),
-        Role::Plain | Role::Count | Role::Id(_) => false,
+        Role::Plain | Role::Count | Role::Checked(_) => false,
     };
     breaks.then_some(spot.field)
 }
@@ -48,10 +48,10 @@ pub fn untrue_count(spot: &Spot) -> Option<usize> {
 
 /// 24: a wrong check digit.
 pub fn wrong_check_digit(spot: &Spot) -> Option<usize> {
-    let Role::Id(id) = ended_kind(spot)?.role else {
+    let Role::Checked(checked) = ended_kind(spot)?.role else {
         return None;
     };
-    let breaks = !spot.text.is_empty() && !id.is_right(spot.text);
+    let breaks = !spot.text.is_empty() && !checked.is_right(spot.text);
     breaks.then_some(spot.field)
 }
 

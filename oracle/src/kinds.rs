@@ -2,7 +2,7 @@
 //! a row has, the row's sheet what they hold; a field that no sheet gives is
 //! a text without a size, and what a sheet gives beyond them is left out.
 
-use crate::check_digits::Id;
+use crate::check_digits::CheckedNumber;
 use crate::rows::{rows, Row};
 use crate::sheets::SHEETS;
 use std::collections::BTreeMap;
@@ -27,7 +27,7 @@ pub enum Role {
     /// Field 2 of a closing or of 9999.
     Count,
     /// A CNPJ or CPF, with check digits.
-    Id(Id),
+    Checked(CheckedNumber),
 }
 
 #[derive(Clone, Copy, Debug, PartialEq, Eq, PartialOrd, Ord)]
@@ -52,8 +52,8 @@ impl Role {
             Role::Fixed(text) => Some(text),
             Role::Mark => Some("mark"),
             Role::Count => Some("count"),
-            Role::Id(Id::Cnpj) => Some("cnpj"),
-            Role::Id(Id::Cpf) => Some("cpf"),
+            Role::Checked(CheckedNumber::Cnpj) => Some("cnpj"),
+            Role::Checked(CheckedNumber::Cpf) => Some("cpf"),
         }
     }
 }
@@ -71,7 +71,7 @@ impl Kind {
 
     /// Whether it stands with nothing in it.
     pub fn may_be_empty(&self) -> bool {
-        matches!(self.role, Role::Plain | Role::Date | Role::Id(_))
+        matches!(self.role, Role::Plain | Role::Date | Role::Checked(_))
     }
 
     /// Whether it can be refused by this number of those that go by what a
@@ -82,7 +82,7 @@ impl Kind {
             11 => !self.numeric || self.size.is_some(),
             12 => matches!(self.role, Role::Date | Role::Fixed(_) | Role::Mark),
             13 => self.role == Role::Count,
-            24 => matches!(self.role, Role::Id(_)),
+            24 => matches!(self.role, Role::Checked(_)),
             _ => false,
         }
     }
@@ -168,7 +168,7 @@ fn role(row: &Row, field: usize, name: &str) -> Role {
         (_, 2) if row.is_opening() => Role::Mark,
         (_, 2) if row.has_count() => Role::Count,
         _ if name.starts_with("DT_") => Role::Date,
-        _ => Id::in_field_named(name).map_or(Role::Plain, Role::Id),
+        _ => CheckedNumber::in_field_named(name).map_or(Role::Plain, Role::Checked),
     }
 }
 
@@ -283,18 +283,21 @@ mod tests {
     /// As the sheets have them, looked up by hand.
     #[test]
     fn fields_with_check_digits() {
-        let with = |id: Id| -> Vec<(&str, usize)> {
-            let found = all_kinds().filter(|(_, _, kind)| kind.role == Role::Id(id));
+        let with = |checked: CheckedNumber| -> Vec<(&str, usize)> {
+            let found = all_kinds().filter(|(_, _, kind)| kind.role == Role::Checked(checked));
             found.map(|(row, field, _)| (row.code.as_str(), field)).collect()
         };
         let cnpjs = ["0000 6", "0100 4", "0150 5", "0465 4", "C550 3", "C600 3", "F225 4"];
         let cpfs = ["0000 19", "0005 4", "0100 5", "0150 6", "0465 5", "C550 2", "C600 2"];
-        for (id, places, size) in [(Id::Cnpj, cnpjs, 14), (Id::Cpf, cpfs, 11)] {
-            let found = with(id).into_iter().map(|(code, field)| format!("{code} {field}"));
-            assert!(found.eq(places), "{id:?}");
+        for (checked, places, size) in
+            [(CheckedNumber::Cnpj, cnpjs, 14), (CheckedNumber::Cpf, cpfs, 11)]
+        {
+            let found = with(checked).into_iter().map(|(code, field)| format!("{code} {field}"));
+            assert!(found.eq(places), "{checked:?}");
             let number = format!("N {size} -");
-            let kinds = distinct_kinds().into_keys().filter(|kind| kind.role == Role::Id(id));
-            assert_eq!(kinds.map(|kind| kind.columns()).collect::<Vec<_>>(), [number]);
+            let kinds = distinct_kinds().into_keys();
+            let found = kinds.filter(|kind| kind.role == Role::Checked(checked));
+            assert_eq!(found.map(|kind| kind.columns()).collect::<Vec<_>>(), [number]);
         }
         assert_eq!(written("F205", 4), "EQP_CNPJ N 14 -");
         assert_eq!(kind(row_with_code(b"F205").unwrap(), 4).role, Role::Plain);

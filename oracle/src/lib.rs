@@ -4,6 +4,8 @@
 //! each line's parent among the lines before it, and asks for every byte which
 //! rules it breaks.
 
+#[cfg(test)]
+mod another_way;
 mod check_digits;
 pub mod compare;
 mod content;
@@ -21,7 +23,7 @@ mod sheets;
 mod spot;
 mod verdict;
 
-pub use check_digits::Id;
+pub use check_digits::CheckedNumber;
 pub use checker::{Answer, Checker};
 pub use verdict::{
     counts, finish, judgement, verdict, verdict_within, Final, Judgement, Verdict, BYTE_LIMIT,

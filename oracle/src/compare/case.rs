@@ -168,8 +168,10 @@ mod tests {
         let plan = Plan::new(5);
         let fine = ["one byte pieces", "two pieces at every cut", "cut finely where it is decided"];
         let is_fine = |about: &String| fine.iter().any(|way| about.ends_with(way));
-        let is_id = |&(row, field): &(usize, usize)| matches!(kind(row, field).role, Role::Id(_));
-        for (row, field) in places().filter(is_id) {
+        let is_checked = |&(row, field): &(usize, usize)| {
+            matches!(kind(row, field).role, Role::Checked(_))
+        };
+        for (row, field) in places().filter(is_checked) {
             let start = format!("{} field {field}, ", rows()[row].code);
             let of_field = |&number: &usize| {
                 plan.swept(number).is_some_and(|file| file.about.starts_with(&start))

@@ -1,9 +1,9 @@
 //! Values to try in a field of some kind, at both sides of its rules.
 
 use crate::generate::amounts::{good_amounts, near_amounts, other_bad_amounts};
-use crate::generate::ids::{good_ids, near_ids, other_bad_ids};
+use crate::generate::checked_numbers::{good_numbers, near_numbers, other_bad_numbers};
 use crate::kinds::{Kind, Role};
-use crate::Id;
+use crate::CheckedNumber;
 
 /// Added to a length so that a width of 8 bits would take it for the right one.
 const WRAP: usize = 256;
@@ -28,7 +28,7 @@ pub fn values(kind: Kind) -> Values {
         (Role::Date, ..) => dates(),
         (Role::Mark, ..) => marks(),
         (Role::Count, ..) => counts(),
-        (Role::Id(id), ..) => ids(id),
+        (Role::Checked(checked), ..) => checked_numbers(checked),
         _ if !kind.numeric => texts(kind.longest_text()),
         (_, Some(decimals), _) => amounts(decimals),
         (_, _, Some(size)) => numbers_of_size(size),
@@ -48,8 +48,12 @@ fn amounts(decimals: usize) -> Values {
     }
 }
 
-fn ids(id: Id) -> Values {
-    Values { good: good_ids(id), near: near_ids(id), others: other_bad_ids(id) }
+fn checked_numbers(checked: CheckedNumber) -> Values {
+    Values {
+        good: good_numbers(checked),
+        near: near_numbers(checked),
+        others: other_bad_numbers(checked),
+    }
 }
 
 fn numbers_of_size(size: usize) -> Values {

@@ -94,46 +94,52 @@ fn base_file(line: usize, field: usize, value: &[u8]) -> File {
     file(about, base_field(line, field, value))
 }
 
-/// CNPJs and CPFs of 0000, and its NIRE, which is as long as a CPF.
+const CNPJS: [&str; 14] = [
+    // equal digits
+    "00000000000000",
+    "11111111111111",
+    "77777777777777",
+    // the first sum leaves 2, 0 and 1
+    "00000000000191",
+    "33000167000101",
+    "12345678900005",
+    // the first check digit wrong and the second right for it, the second
+    // wrong, both in the wrong order
+    "11222333000190",
+    "11222333000182",
+    "11222333000118",
+    // other sizes and characters
+    "1122233300018",
+    "112223330001810",
+    "011222333000181",
+    "1122233300018x",
+    "112223330001x",
+];
+
+const CPFS: [&str; 13] = [
+    "52998224725",
+    "00000000000",
+    "11111111111",
+    "99999999999",
+    "12345678909",
+    "52998224733",
+    "52998224724",
+    "52998224752",
+    // the manual's examples, which break the rule
+    "88244044940",
+    "00033344400",
+    // other characters and sizes
+    "5299822472x",
+    "052998224725",
+    "11222333000181",
+];
+
+/// As long as a CPF, but none.
+const NIRES: [&str; 2] = ["52998224725", "52998224724"];
+
+/// CNPJs, CPFs and NIREs in their fields of 0000.
 fn numbers_with_check_digits() -> Vec<File> {
-    let cnpjs = [
-        // equal digits
-        "00000000000000",
-        "11111111111111",
-        "77777777777777",
-        // the first sum leaves 2, 0 and 1
-        "00000000000191",
-        "33000167000101",
-        "12345678900005",
-        // the first check digit wrong and the second right for it, the second
-        // wrong, both in the wrong order
-        "11222333000190",
-        "11222333000182",
-        "11222333000118",
-        "1122233300018",
-        "112223330001810",
-        "011222333000181",
-        "1122233300018x",
-        "112223330001x",
-    ];
-    let cpfs = [
-        "52998224725",
-        "00000000000",
-        "11111111111",
-        "99999999999",
-        "12345678909",
-        "52998224733",
-        "52998224724",
-        "52998224752",
-        // the manual's examples, which break the rule
-        "88244044940",
-        "00033344400",
-        "5299822472x",
-        "052998224725",
-        "11222333000181",
-    ];
-    let nires = ["52998224725", "52998224724"];
-    let lists: [(usize, &[&str]); 3] = [(6, &cnpjs), (19, &cpfs), (18, &nires)];
+    let lists: [(usize, &[&str]); 3] = [(6, &CNPJS), (19, &CPFS), (18, &NIRES)];
     let with = |field: usize| move |value: &&str| base_file(1, field, value.as_bytes());
     lists.iter().flat_map(|&(field, values)| values.iter().map(with(field))).collect()
 }

@@ -2,8 +2,8 @@
 //! pairs of them after one start, and numbers for all pairs of remainders.
 
 use super::base::{base_field, file, written, File, BASE};
-use crate::generate::ids::ids_of_all_remainders;
-use crate::Id;
+use crate::generate::checked_numbers::numbers_of_all_remainders;
+use crate::CheckedNumber;
 
 pub fn check_digit_files() -> Vec<File> {
     [all_pairs(6, "112223330001"), all_pairs(19, "529982247"), all_remainders()].concat()
@@ -22,13 +22,13 @@ fn all_pairs(field: usize, start: &str) -> Vec<File> {
 /// A line of 0150 for each pair of remainders, and the same with the very last
 /// check digit wrong.
 fn all_remainders() -> Vec<File> {
-    let texts = |id: Id| -> Vec<String> {
-        let numbers = ids_of_all_remainders(id).into_iter();
+    let texts = |checked: CheckedNumber| -> Vec<String> {
+        let numbers = numbers_of_all_remainders(checked).into_iter();
         numbers.map(|number| String::from_utf8(number).expect("digits")).collect()
     };
     let line = |(cnpj, cpf): (String, String)| format!("|0150||||{cnpj}|{cpf}||||||||");
     let mut lines: Vec<String> =
-        texts(Id::Cnpj).into_iter().zip(texts(Id::Cpf)).map(line).collect();
+        texts(CheckedNumber::Cnpj).into_iter().zip(texts(CheckedNumber::Cpf)).map(line).collect();
     let right = file("all remainders of check digits", with_participants(&lines));
     let last = lines.last_mut().expect("there are 121");
     // remainder 10 gives 1, and the last pair is of this remainder twice
@@ -63,10 +63,12 @@ mod tests {
 
     #[test]
     fn one_pair_stands_and_99_are_refused() {
-        for (field, start) in [(6, "112223330001"), (19, "529982247")] {
-            let numbers: Vec<u8> = all_pairs(field, start).iter().map(number).collect();
-            assert_eq!(numbers.iter().filter(|&&number| number == 0).count(), 1);
-            assert_eq!(numbers.iter().filter(|&&number| number == 24).count(), 99);
+        for (field, start, pair) in [(6, "112223330001", "81"), (19, "529982247", "25")] {
+            let is_right = |file: &File| file.about.ends_with(&format!("{start}{pair}"));
+            let (right, wrong): (Vec<File>, Vec<File>) =
+                all_pairs(field, start).into_iter().partition(is_right);
+            assert!(right.iter().map(number).eq([0]));
+            assert!(wrong.iter().map(number).eq([24; 99]));
         }
     }
 

@@ -19,7 +19,7 @@ pub fn field_files(random: &mut Random) -> Vec<File> {
         // all values at the first field of a kind in its block, a few at the
         // others, but all of them at each CNPJ and CPF, there being 14
         let first = met.insert((rows()[row].block(), kind));
-        let all = first || matches!(kind.role, Role::Id(_));
+        let all = first || matches!(kind.role, Role::Checked(_));
         let tried = tried_values(values(kind), all, turn);
         files.extend(tried.iter().map(|value| with_value(random, row, field, value)));
     }

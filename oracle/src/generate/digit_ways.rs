@@ -3,7 +3,7 @@
 //! here and not taken from the request's lists, so that one writing of the
 //! rule can be held against the other.
 
-use crate::Id;
+use crate::CheckedNumber::{self, Cnpj, Cpf};
 
 #[derive(Clone)]
 pub struct Way {
@@ -16,9 +16,10 @@ pub struct Way {
 }
 
 impl Way {
-    pub fn right(id: Id) -> Way {
-        let before = id.digits_before();
-        Way { first: weights(id, before), second: weights(id, before + 1), digit: right_digit }
+    pub fn right(checked: CheckedNumber) -> Way {
+        let before = checked.digits_before();
+        let (first, second) = (weights(checked, before), weights(checked, before + 1));
+        Way { first, second, digit: right_digit }
     }
 
     /// The number that begins with these digits.
@@ -43,10 +44,10 @@ impl Way {
 }
 
 /// 2, 3, 4 and on from the last digit to the first; a CNPJ has 2 again after 9.
-fn weights(id: Id, digits: usize) -> Vec<usize> {
-    let weight = |from_last: usize| match id {
-        Id::Cnpj => 2 + from_last % 8,
-        Id::Cpf => 2 + from_last,
+fn weights(checked: CheckedNumber, digits: usize) -> Vec<usize> {
+    let weight = |from_last: usize| match checked {
+        Cnpj => 2 + from_last % 8,
+        Cpf => 2 + from_last,
     };
     (0..digits).rev().map(weight).collect()
 }
@@ -68,11 +69,11 @@ fn written(digit: usize) -> u8 {
 }
 
 /// Ways that lead to other check digits.
-pub fn misread_ways(id: Id) -> Vec<Way> {
-    [misread_remainders(id), misread_lists(id), weights_one_off(id)].concat()
+pub fn misread_ways(checked: CheckedNumber) -> Vec<Way> {
+    [misread_remainders(checked), misread_lists(checked), weights_one_off(checked)].concat()
 }
 
-fn misread_remainders(id: Id) -> Vec<Way> {
+fn misread_remainders(checked: CheckedNumber) -> Vec<Way> {
     let digits: [fn(usize) -> usize; 4] = [
         // "at most 2" for "below 2"
         |rest| if rest <= 2 { 0 } else { 11 - rest },
@@ -82,15 +83,15 @@ fn misread_remainders(id: Id) -> Vec<Way> {
         // not taken from 11
         |rest| rest % 10,
     ];
-    digits.into_iter().map(|digit| Way { digit, ..Way::right(id) }).collect()
+    digits.into_iter().map(|digit| Way { digit, ..Way::right(checked) }).collect()
 }
 
-fn misread_lists(id: Id) -> Vec<Way> {
-    let before = id.digits_before();
-    let (first, second) = (weights(id, before), weights(id, before + 1));
-    let other = match id {
-        Id::Cnpj => Id::Cpf,
-        Id::Cpf => Id::Cnpj,
+fn misread_lists(checked: CheckedNumber) -> Vec<Way> {
+    let before = checked.digits_before();
+    let (first, second) = (weights(checked, before), weights(checked, before + 1));
+    let other = match checked {
+        Cnpj => Cpf,
+        Cpf => Cnpj,
     };
     let reversed = |list: &[usize]| list.iter().rev().copied().collect::<Vec<usize>>();
     let lists = [
@@ -107,16 +108,16 @@ fn misread_lists(id: Id) -> Vec<Way> {
 }
 
 /// Each weight of the list one too many, in front of it included.
-fn weights_one_off(id: Id) -> Vec<Way> {
+fn weights_one_off(checked: CheckedNumber) -> Vec<Way> {
     let with_off = |place: usize| {
-        let Way { mut first, mut second, digit } = Way::right(id);
+        let Way { mut first, mut second, digit } = Way::right(checked);
         second[place] += 1;
         if place > 0 {
             first[place - 1] += 1;
         }
         Way { first, second, digit }
     };
-    (0..=id.digits_before()).map(with_off).collect()
+    (0..=checked.digits_before()).map(with_off).collect()
 }
 
 #[cfg(test)]
@@ -127,22 +128,23 @@ mod tests {
     #[test]
     fn the_right_way_is_the_checker_s() {
         let mut random = Random::from_seed(1);
-        for id in [Id::Cnpj, Id::Cpf] {
+        for checked in [Cnpj, Cpf] {
             for _ in 0..5000 {
-                let start = random.digits(id.digits_before());
-                assert_eq!(Way::right(id).completed(&start), id.completed(&start));
+                let start = random.digits(checked.digits_before());
+                assert_eq!(Way::right(checked).completed(&start), checked.completed(&start));
             }
         }
     }
 
     #[test]
     fn misread_ways_lead_elsewhere() {
-        for id in [Id::Cnpj, Id::Cpf] {
-            for way in misread_ways(id) {
+        for checked in [Cnpj, Cpf] {
+            for way in misread_ways(checked) {
                 let mut random = Random::from_seed(1);
-                let starts = (0..300).map(|_| random.digits(id.digits_before()));
-                let others = starts.filter(|start| way.completed(start) != id.completed(start));
-                assert!(others.count() > 20, "{id:?} {:?} {:?}", way.first, way.second);
+                let starts = (0..300).map(|_| random.digits(checked.digits_before()));
+                let differs = |start: &Vec<u8>| way.completed(start) != checked.completed(start);
+                let others = starts.filter(differs).count();
+                assert!(others > 20, "{checked:?} {:?} {:?}", way.first, way.second);
             }
         }
     }

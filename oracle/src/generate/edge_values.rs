@@ -1,15 +1,17 @@
 //! Values at the edge of what a kind of field allows, on both sides.
 
 use super::amounts::edge_amount;
+use super::checked_numbers;
 use super::fill::good_date;
-use super::ids::edge_id;
 use super::random::Random;
 use crate::kinds::{Kind, Role};
 
 pub fn edge_value(random: &mut Random, kind: Kind) -> Vec<u8> {
     match kind.role {
         Role::Date if random.percent(70) => edge_date(random),
-        Role::Id(id) if random.percent(80) => edge_id(random, id),
+        Role::Checked(checked) if random.percent(80) => {
+            checked_numbers::edge_number(random, checked)
+        }
         Role::Fixed(text) => edge_fixed(random, text.as_bytes()),
         _ if !kind.numeric => edge_text(random, kind.longest_text()),
         _ => match kind.decimals {

@@ -1,7 +1,7 @@
 //! Good contents for fields.
 
+use super::checked_numbers;
 use super::draft::DraftLine;
-use super::ids::good_id;
 use super::random::Random;
 use crate::kinds::{kind, Kind, Role};
 use crate::rows::rows;
@@ -31,7 +31,7 @@ fn good_field(random: &mut Random, kind: Kind, fullness: Fullness) -> Vec<u8> {
         Role::Mark | Role::Count => b"1".to_vec(),
         _ if !kind.can_be_filled() || !random.percent(fullness.filled) => Vec::new(),
         Role::Date => good_date(random),
-        Role::Id(id) => good_id(random, id),
+        Role::Checked(checked) => checked_numbers::good_number(random, checked),
         Role::Plain if kind.numeric => good_number(random, kind, fullness.longest),
         Role::Plain => {
             let length = random.between(1, kind.longest_text().min(fullness.longest));

@@ -3,6 +3,7 @@
 
 pub(crate) mod amounts;
 pub(crate) mod big;
+pub(crate) mod checked_numbers;
 pub(crate) mod content_cases;
 mod count_cases;
 mod digit_ways;
@@ -10,7 +11,6 @@ pub(crate) mod draft;
 mod edge_values;
 mod edit_cases;
 pub(crate) mod fill;
-pub(crate) mod ids;
 mod line_cases;
 mod mix;
 mod pieces;

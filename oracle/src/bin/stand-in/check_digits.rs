@@ -5,14 +5,14 @@ use crate::forgives_fields::{forgive, refused_field};
 use crate::refuses_fields::refuse;
 use crate::says::{forgiven, refusal};
 use oracle::kinds::{Kind, Role};
-use oracle::{Answer, Id};
+use oracle::{Answer, CheckedNumber};
 
 /// The weights for the second check digit; the first's are those after the
 /// first of them.
-fn weights(id: Id) -> &'static [u32] {
-    match id {
-        Id::Cnpj => &[6, 5, 4, 3, 2, 9, 8, 7, 6, 5, 4, 3, 2],
-        Id::Cpf => &[11, 10, 9, 8, 7, 6, 5, 4, 3, 2],
+fn weights(checked: CheckedNumber) -> &'static [u32] {
+    match checked {
+        CheckedNumber::Cnpj => &[6, 5, 4, 3, 2, 9, 8, 7, 6, 5, 4, 3, 2],
+        CheckedNumber::Cpf => &[11, 10, 9, 8, 7, 6, 5, 4, 3, 2],
     }
 }
 
@@ -27,67 +27,67 @@ fn right_digit(rest: u32) -> u32 {
 
 type Digit = fn(u32) -> u32;
 
-fn first_is_right(id: Id, text: &[u8], digit: Digit) -> bool {
+fn first_is_right(checked: CheckedNumber, text: &[u8], digit: Digit) -> bool {
     let at = text.len() - 2;
-    digit(remainder(&text[..at], &weights(id)[1..])) == u32::from(text[at] - b'0')
+    digit(remainder(&text[..at], &weights(checked)[1..])) == u32::from(text[at] - b'0')
 }
 
-fn second_is_right(id: Id, text: &[u8], digit: Digit) -> bool {
+fn second_is_right(checked: CheckedNumber, text: &[u8], digit: Digit) -> bool {
     let at = text.len() - 1;
-    digit(remainder(&text[..at], weights(id))) == u32::from(text[at] - b'0')
+    digit(remainder(&text[..at], weights(checked))) == u32::from(text[at] - b'0')
 }
 
-fn are_right(id: Id, text: &[u8], digit: Digit) -> bool {
-    first_is_right(id, text, digit) && second_is_right(id, text, digit)
+fn are_right(checked: CheckedNumber, text: &[u8], digit: Digit) -> bool {
+    first_is_right(checked, text, digit) && second_is_right(checked, text, digit)
 }
 
-fn id_of(kind: Kind) -> Option<Id> {
+fn checked_number(kind: Kind) -> Option<CheckedNumber> {
     match kind.role {
-        Role::Id(id) => Some(id),
+        Role::Checked(checked) => Some(checked),
         _ => None,
     }
 }
 
 /// Each CNPJ and CPF is judged by this alone, be it right or wrong.
-fn judged(all: &[u8], answer: Answer, is_right: fn(Id, &[u8]) -> bool) -> Answer {
+fn judged(all: &[u8], answer: Answer, is_right: fn(CheckedNumber, &[u8]) -> bool) -> Answer {
     let answer = refuse(all, answer, 24, |(kind, text)| {
-        !text.is_empty() && id_of(kind).is_some_and(|id| !is_right(id, text))
+        !text.is_empty() && checked_number(kind).is_some_and(|checked| !is_right(checked, text))
     });
     forgive(all, answer, 24, |refused| {
-        id_of(refused.kind).is_some_and(|id| is_right(id, refused.text))
+        checked_number(refused.kind).is_some_and(|checked| is_right(checked, refused.text))
     })
 }
 
 pub fn first_only(all: &[u8], answer: Answer) -> Answer {
-    judged(all, answer, |id, text| first_is_right(id, text, right_digit))
+    judged(all, answer, |checked, text| first_is_right(checked, text, right_digit))
 }
 
 pub fn second_only(all: &[u8], answer: Answer) -> Answer {
-    judged(all, answer, |id, text| second_is_right(id, text, right_digit))
+    judged(all, answer, |checked, text| second_is_right(checked, text, right_digit))
 }
 
 /// "Below 2" taken for "at most 2".
 pub fn at_most_2(all: &[u8], answer: Answer) -> Answer {
-    judged(all, answer, |id, text| {
-        are_right(id, text, |rest| if rest <= 2 { 0 } else { 11 - rest })
+    judged(all, answer, |checked, text| {
+        are_right(checked, text, |rest| if rest <= 2 { 0 } else { 11 - rest })
     })
 }
 
 /// 11 is cut to its last digit as 10 is.
 pub fn remainder_0_gives_1(all: &[u8], answer: Answer) -> Answer {
-    judged(all, answer, |id, text| are_right(id, text, |rest| (11 - rest) % 10))
+    judged(all, answer, |checked, text| are_right(checked, text, |rest| (11 - rest) % 10))
 }
 
 /// 10 is no digit, so that no number with it is right.
 pub fn remainder_1_refused(all: &[u8], answer: Answer) -> Answer {
-    judged(all, answer, |id, text| are_right(id, text, |rest| (11 - rest) % 11))
+    judged(all, answer, |checked, text| are_right(checked, text, |rest| (11 - rest) % 11))
 }
 
 pub fn second_s_weights_for_first(all: &[u8], answer: Answer) -> Answer {
-    judged(all, answer, |id, text| {
+    judged(all, answer, |checked, text| {
         let at = text.len() - 2;
-        let first = right_digit(remainder(&text[..at], weights(id)));
-        first == u32::from(text[at] - b'0') && second_is_right(id, text, right_digit)
+        let first = right_digit(remainder(&text[..at], weights(checked)));
+        first == u32::from(text[at] - b'0') && second_is_right(checked, text, right_digit)
     })
 }
 
@@ -96,7 +96,7 @@ pub fn forgiven_all(all: &[u8], answer: Answer) -> Answer {
 }
 
 pub fn forgiven_in_cpf(all: &[u8], answer: Answer) -> Answer {
-    forgive(all, answer, 24, |refused| id_of(refused.kind) == Some(Id::Cpf))
+    forgive(all, answer, 24, |refused| checked_number(refused.kind) == Some(CheckedNumber::Cpf))
 }
 
 pub fn forgiven_after_0000(all: &[u8], answer: Answer) -> Answer {
@@ -109,7 +109,7 @@ pub fn equal_digits_forgiven(all: &[u8], answer: Answer) -> Answer {
 }
 
 pub fn equal_digits_refused(all: &[u8], answer: Answer) -> Answer {
-    refuse(all, answer, 24, |(kind, text)| id_of(kind).is_some() && is_one_digit(text))
+    refuse(all, answer, 24, |(kind, text)| checked_number(kind).is_some() && is_one_digit(text))
 }
 
 fn is_one_digit(text: &[u8]) -> bool {
@@ -117,23 +117,23 @@ fn is_one_digit(text: &[u8]) -> bool {
 }
 
 pub fn empty_refused(all: &[u8], answer: Answer) -> Answer {
-    refuse(all, answer, 24, |(kind, text)| id_of(kind).is_some() && text.is_empty())
+    refuse(all, answer, 24, |(kind, text)| checked_number(kind).is_some() && text.is_empty())
 }
 
 /// EQP_CNPJ is the only other field of 14 digits.
 pub fn eqp_cnpj_judged(all: &[u8], answer: Answer) -> Answer {
-    judged_by_size(all, answer, 14, Id::Cnpj)
+    judged_by_size(all, answer, 14, CheckedNumber::Cnpj)
 }
 
 /// NIRE is the only other field of 11 digits.
 pub fn nire_judged(all: &[u8], answer: Answer) -> Answer {
-    judged_by_size(all, answer, 11, Id::Cpf)
+    judged_by_size(all, answer, 11, CheckedNumber::Cpf)
 }
 
-fn judged_by_size(all: &[u8], answer: Answer, size: usize, id: Id) -> Answer {
+fn judged_by_size(all: &[u8], answer: Answer, size: usize, checked: CheckedNumber) -> Answer {
     refuse(all, answer, 24, |(kind, text)| {
         let is_other = kind.role == Role::Plain && kind.numeric && kind.size == Some(size);
-        is_other && !text.is_empty() && !are_right(id, text, right_digit)
+        is_other && !text.is_empty() && !are_right(checked, text, right_digit)
     })
 }
 
@@ -149,7 +149,7 @@ pub fn before_characters(all: &[u8], answer: Answer) -> Answer {
 
 fn before(all: &[u8], answer: Answer, other: u8) -> Answer {
     let refused = refused_field(all, &answer, other);
-    match (answer, refused.and_then(|refused| id_of(refused.kind))) {
+    match (answer, refused.and_then(|refused| checked_number(refused.kind))) {
         (Answer::Refused { field, lines, bytes, .. }, Some(_)) => refusal(24, lines, field, bytes),
         _ => answer,
     }

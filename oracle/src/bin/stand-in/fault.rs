@@ -109,7 +109,7 @@ pub const FAULTS: [Fault; 79] = [
     saying("remainder-0-gives-1", check_digits::remainder_0_gives_1),
     saying("remainder-1-refused", check_digits::remainder_1_refused),
     saying("second-s-weights-for-first", check_digits::second_s_weights_for_first),
-    saying("refuses-empty-id", check_digits::empty_refused),
+    saying("refuses-empty-checked-number", check_digits::empty_refused),
     saying("refuses-equal-digits", check_digits::equal_digits_refused),
     saying("judges-eqp-cnpj", check_digits::eqp_cnpj_judged),
     saying("judges-nire", check_digits::nire_judged),

@@ -1,0 +1,28 @@
+//! Another way to judge a CNPJ or CPF, for tests to hold the checker's own to.
+//! No check digit is worked out: the number is summed up as it is written.
+
+use crate::CheckedNumber::{self, Cnpj, Cpf};
+
+pub fn is_right_in_another_way(checked: CheckedNumber, text: &[u8]) -> bool {
+    let size = match checked {
+        Cnpj => 14,
+        Cpf => 11,
+    };
+    let is_number = text.len() == size && text.iter().all(u8::is_ascii_digit);
+    is_number && ends_rightly(checked, &text[..size - 1]) && ends_rightly(checked, text)
+}
+
+/// Counted from the right, where the check digit itself has weight 1, the
+/// weights are 2, 3, 4 and on, for a CNPJ from 9 back to 2. The whole sum is
+/// then a multiple of 11. Only where that would take a digit 10, the digit is 0
+/// and the sum one more than a multiple.
+fn ends_rightly(checked: CheckedNumber, digits: &[u8]) -> bool {
+    let weight = |from_right: usize| match (checked, from_right) {
+        (_, 0) => 1,
+        (Cnpj, _) => 2 + (from_right - 1) % 8,
+        (Cpf, _) => 1 + from_right,
+    };
+    let from_right = digits.iter().rev().enumerate();
+    let sum: usize = from_right.map(|(at, digit)| weight(at) * usize::from(digit - b'0')).sum();
+    sum % 11 == 0 || (sum % 11 == 1 && digits.ends_with(b"0"))
+}
