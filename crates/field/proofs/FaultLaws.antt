@@ -1,29 +1,32 @@
--- What the bar finds, kind by kind, is what rules 10 to 13 say of the word.
+-- What the bar finds, kind by kind, is what rules 10 to 13 and 24 say of the word.
 use mathlib.Core.Path.{_≡_, _∙_, refl, sym, ap}
 use mathlib.Core.Bool.{Bool, true, false, not, _&&_, _||_}
 use mathlib.Core.List.{List, [], _∷_, reverse}
 use Prim.Native.Nat.{ℕ, suc, _+_, _-_, _*_, _/_, _%_, _^_, _<_, _≤_, min}
 use native.Mathlib.Nat.{add-mul-mod-self-left, mod-eq-of-lt, add-mul-div-left, div-eq-of-lt}
 use native.Mathlib.Omega.{arith}
-use lib.Dec.{eqb, leb, ltb}
+use lib.Dec.{eqb, leb, ltb, lit≤}
 use lib.ListN.{length}
 use borrow.Author.Tests.{ne-eqb, eqb-true, eqb-false, lt-leb, le-ltb, lt-ltb, leb-true, leb-false}
 use Rattle.layout.specs.Pick.{pick}
 use Rattle.layout.specs.Text.{bytes}
-use Rattle.layout.specs.Kind.{Kind, codeField, C, N, N-, decimals, date, lfpd, brasil, opens, count, noField}
+use Rattle.layout.specs.Kind.{Kind, codeField, C, N, N-, decimals, date, cnpj, cpf, lfpd, brasil, opens, count, noField}
 use Rattle.layout.specs.Packed.{kindNumber, sizeUnit, cClass, nClass, nAnyClass, decimalsClass}
-use Rattle.layout.specs.Packed.{dateClass, lfpdClass, brasilClass, opensClass, countClass}
+use Rattle.layout.specs.Packed.{dateClass, cnpjClass, cpfClass, lfpdClass, brasilClass, opensClass, countClass}
 use Rattle.rules.specs.Bytes.{empty}
 use Rattle.rules.specs.Fields.{isDigit, allDigits, value, isDecimal, isDate, sameBytes, isText, formOf, states}
+use Rattle.rules.specs.CheckDigits.{digitsOf, isCnpj, isCpf}
 use Rattle.field.specs.declared.bytes.Field.{Field}
+use Rattle.field.specs.Digits.{lastDigits, cnpjRight, cpfRight}
 use Rattle.field.specs.Streaming.{cap, digitWith, textWith, decimalWith, withByte}
-use Rattle.field.specs.Streaming.{fieldAfter, emptyFault, rightForm, isExact, rightSize, contentFault}
+use Rattle.field.specs.Streaming.{fieldAfter, emptyFault, rightForm, isExact, rightSize, digitsFault, contentFault}
 use Rattle.field.specs.Streaming.{numberFault, textFault, isTextClass, faultOf}
 use Rattle.field.specs.Ruled.{ruled}
 use Rattle.rules.proofs.TestLaws.{split, and-left}
 use Rattle.field.proofs.Picks.{and-first}
 use Rattle.field.proofs.LengthLaws.{length-is}
 use Rattle.field.proofs.DigitLaws.{digits-right, digits-value, value-below, capped-is}
+use Rattle.field.proofs.CheckDigitLaws.{digits-are}
 use Rattle.field.proofs.TextLaws.{text-is}
 use Rattle.field.proofs.DecimalLaws.{decimals-is}
 
@@ -145,9 +148,9 @@ decimals-bar d due (b ∷ w) h =
     (length-is (kindNumber (decimals d)) (b ∷ w)) refl
     ∙ in-turn (isDecimal d (b ∷ w)) true 0 0 (λ p q. refl)
 
--- the value of eight digits is kept whole
-whole : (w : List ℕ) → allDigits w ≡ true → length w ≡ 8 → min cap (value w) ≡ value w
-whole w p e = let h : value w < 10 ^ 8 = rw e at (value-below w p) in omega arith
+-- the value of so few digits is kept whole
+whole : (n : ℕ) (w : List ℕ) → 10 ^ n ≤ cap → allDigits w ≡ true → length w ≡ n → min cap (value w) ≡ value w
+whole n w h p e = let below : value w < 10 ^ n = rw e at (value-below w p) in omega arith
 
 date-bar : (due : ℕ) (w : List ℕ) → Agrees date due w
 unfolding kindNumber faultOf isTextClass withByte fieldAfter
@@ -157,7 +160,36 @@ date-bar due (b ∷ w) =
     let v = value (b ∷ w) in
     digits-bar (kindNumber date) dateClass 8 (λ f b. refl) refl due b w
     ∙ in-turn (allDigits (b ∷ w)) (eqb (suc (length w)) 8) (pick (isDate (min cap v)) 0 12) (pick (not (isDate v)) 12 0)
-    (λ p q. rw (whole (b ∷ w) p (eqb-true (suc (length w)) 8 q)) (turned (isDate v) 12))
+    (λ p q. rw (whole 8 (b ∷ w) (lit≤ tt) p (eqb-true (suc (length w)) 8 q)) (turned (isDate v) 12))
+
+-- a CNPJ and a CPF, once for both: digits of a size, and then a test of the digits, by the value or by the word
+abbrev byValue : (List ℕ → Bool) → ℕ → ℕ → ℕ
+byValue right n v = pick (right (lastDigits n v)) 0 24
+
+abbrev byWord : (List ℕ → Bool) → List ℕ → ℕ
+byWord right w = pick (not (right (digitsOf w))) 24 0
+
+checked-turn : (right : List ℕ → Bool) (n : ℕ) → 10 ^ n ≤ cap → (b : ℕ) (w : List ℕ)
+    → pick (allDigits (b ∷ w)) (pick (eqb (suc (length w)) n) (byValue right n (min cap (value (b ∷ w)))) 11) 10
+    ≡ pick (not (allDigits (b ∷ w))) 10 (pick (not (eqb (suc (length w)) n)) 11 (byWord right (b ∷ w)))
+checked-turn right n h b w =
+    in-turn (allDigits (b ∷ w)) (eqb (suc (length w)) n) (byValue right n (min cap (value (b ∷ w)))) (byWord right (b ∷ w))
+    (λ p q. let e = eqb-true (suc (length w)) n q in
+    rw (whole n (b ∷ w) h p e, digits-are (b ∷ w) p, e) (turned (right (lastDigits n (value (b ∷ w)))) 24))
+
+cnpj-bar : (due : ℕ) (w : List ℕ) → Agrees cnpj due w
+unfolding kindNumber faultOf isTextClass withByte fieldAfter
+    numberFault emptyFault rightSize isExact contentFault digitsFault cnpjRight ruled formOf empty
+cnpj-bar due [] = refl
+cnpj-bar due (b ∷ w) =
+    digits-bar (kindNumber cnpj) cnpjClass 14 (λ f b. refl) refl due b w ∙ checked-turn isCnpj 14 (lit≤ tt) b w
+
+cpf-bar : (due : ℕ) (w : List ℕ) → Agrees cpf due w
+unfolding kindNumber faultOf isTextClass withByte fieldAfter
+    numberFault emptyFault rightSize isExact contentFault digitsFault cpfRight ruled formOf empty
+cpf-bar due [] = refl
+cpf-bar due (b ∷ w) =
+    digits-bar (kindNumber cpf) cpfClass 11 (λ f b. refl) refl due b w ∙ checked-turn isCpf 11 (lit≤ tt) b w
 
 -- one digit is at most 1 where it is 0 or 1
 zero-or-one : (b : ℕ) → 48 ≤ b → leb (min cap (0 + (b - 48))) 1 ≡ (eqb b 48 && true || eqb b 49 && true)
@@ -203,6 +235,8 @@ fault-is (N s) due w h l = N-bar s due w
 fault-is N- due w h l = N--bar due w
 fault-is (decimals d) due w h l = decimals-bar d due w l
 fault-is date due w h l = date-bar due w
+fault-is cnpj due w h l = cnpj-bar due w
+fault-is cpf due w h l = cpf-bar due w
 fault-is lfpd due w h l = lfpd-bar due w
 fault-is brasil due w h l = brasil-bar due w
 fault-is opens due w h l = opens-bar due w

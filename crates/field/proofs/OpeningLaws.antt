@@ -19,18 +19,19 @@ use Rattle.rules.proofs.TestLaws.{split}
 use Rattle.field.proofs.TextLaws.{same-eq}
 
 -- where no rule is broken the content is right
-content-right : (characters size content : Bool) → _≡_ {A = ℕ} (pick characters 10 (pick size 11 (pick (not content) 12 0))) 0
-    → content ≡ true
-content-right true size content e = absurd (omega arith)
-content-right false true content e = absurd (omega arith)
-content-right false false true e = refl
-content-right false false false e = absurd (omega arith)
+content-right : (characters size content : Bool) (rest : ℕ)
+    → pick characters 10 (pick size 11 (pick (not content) 12 rest)) ≡ 0 → content ≡ true
+content-right true size content rest e = absurd (omega arith)
+content-right false true content rest e = absurd (omega arith)
+content-right false false true rest e = refl
+content-right false false false rest e = absurd (omega arith)
 
 digit-text : (due : ℕ) (w : List ℕ) → ruled (formOf opens) due w ≡ 0 → (w ≡ 48 ∷ []) ⊎ (w ≡ 49 ∷ [])
 unfolding ruled formOf isText bytes
 digit-text due w e =
     let filled = not (empty w) in
-    let right = content-right (filled && not (allDigits w)) (filled && not (eqb (length w) 1)) (isText "0" w || isText "1" w) e in
+    let right =
+    content-right (filled && not (allDigits w)) (filled && not (eqb (length w) 1)) (isText "0" w || isText "1" w) _ e in
     split (isText "0" w)
     (λ t. inl (same-eq w (48 ∷ []) t))
     (λ t. inr (same-eq w (49 ∷ []) (rw t at right)))

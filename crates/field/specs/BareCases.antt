@@ -1,10 +1,10 @@
--- 01, "Both sides of each rule": words, and what the bar after them finds once they have streamed through.
+-- 01, "Both sides of each rule", and 02, request h: words, and what the bar after them finds once they have streamed through.
 use mathlib.Core.List.{List, [], _∷_, reverse}
 use Prim.Native.Nat.{ℕ}
 use Prim.Native.String.{String}
 use lib.ListN.{replicate}
 use Rattle.layout.specs.Text.{bytes}
-use Rattle.layout.specs.Kind.{Kind, C-, N, decimals, date, count}
+use Rattle.layout.specs.Kind.{Kind, C-, decimals, date, cnpj, cpf, count}
 use Rattle.layout.specs.Packed.{kindNumber}
 use Rattle.rules.specs.BareCases.{Bare, bare}
 use Rattle.field.specs.Streaming.{fieldAfter, faultOf}
@@ -19,9 +19,16 @@ typed text = reverse (bytes text)
 unfoldable pub wordCases : List Bare
 wordCases =
     -- a CNPJ of 14 digits stands, of 15: 11; with a letter too the lowest number is given: 10
-    bare 0 (barFinds (N 14) 0 (typed "12345678000195")) ∷
-    bare 11 (barFinds (N 14) 0 (typed "123456780001955")) ∷
-    bare 10 (barFinds (N 14) 0 (typed "12345678000195X")) ∷
+    bare 0 (barFinds cnpj 0 (typed "12345678000195")) ∷
+    bare 11 (barFinds cnpj 0 (typed "123456780001955")) ∷
+    bare 10 (barFinds cnpj 0 (typed "12345678000195X")) ∷
+    -- 02, request h: its check digits exchanged: 24; a CPF that begins with zeros, and one with another last digit: 24; empty
+    bare 24 (barFinds cnpj 0 (typed "12345678000159")) ∷
+    bare 0 (barFinds cpf 0 (typed "00000000191")) ∷
+    bare 24 (barFinds cpf 0 (typed "00000000192")) ∷
+    bare 0 (barFinds cpf 0 []) ∷
+    -- a value of 14 digits is kept whole
+    bare 0 (barFinds cnpj 0 (typed "99999999999962")) ∷
     -- one comma, not two
     bare 0 (barFinds (decimals 2) 0 (typed "1,50")) ∷
     bare 10 (barFinds (decimals 2) 0 (typed "1,,50")) ∷

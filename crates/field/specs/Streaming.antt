@@ -6,11 +6,12 @@ use lib.Dec.{eqb, leb, ltb}
 use lib.ListN.{getD}
 use Rattle.layout.specs.Pick.{pick}
 use Rattle.layout.specs.Text.{bytes}
-use Rattle.layout.specs.Packed.{brasilClass, cClass, codeClass, countClass, dateClass, decimalsClass, lfpdClass}
-use Rattle.layout.specs.Packed.{nAnyClass, opensClass, sizeUnit}
+use Rattle.layout.specs.Packed.{brasilClass, cClass, cnpjClass, codeClass, countClass, cpfClass, dateClass, decimalsClass}
+use Rattle.layout.specs.Packed.{lfpdClass, nAnyClass, opensClass, sizeUnit}
 use Rattle.rules.specs.Fields.{isDigit, isDate, comma}
 use Rattle.rules.specs.Rules.{byteLimit}
 use Rattle.field.specs.declared.bytes.Field.{Field}
+use Rattle.field.specs.Digits.{cnpjRight, cpfRight}
 
 -- a value is kept up to just above that of 14 digits, the most that are looked at again; it is above the largest number of
 -- bytes too, and so of lines
@@ -96,12 +97,18 @@ isExact class = not (eqb class decimalsClass || eqb class nAnyClass || eqb class
 unfoldable pub rightSize : ℕ → ℕ → ℕ → Bool
 rightSize class size length = not (isExact class) || eqb length size
 
+-- rule 24 of a CNPJ and of a CPF
+unfoldable pub digitsFault : ℕ → ℕ → ℕ
+digitsFault class value =
+    pick (eqb class cnpjClass) (pick (cnpjRight value) 0 24) (pick (eqb class cpfClass) (pick (cpfRight value) 0 24) 0)
+
 -- of plain numbers, with decimals or without, nothing more is asked; most numbers are plain, so they are told first
 unfoldable pub contentFault : ℕ → ℕ → ℕ → ℕ
 contentFault class value due =
     pick (leb class decimalsClass) 0
     (pick (eqb class dateClass) (pick (isDate value) 0 12)
-    (pick (eqb class opensClass) (pick (leb value 1) 0 12) (pick (eqb class countClass) (pick (eqb value due) 0 13) 0)))
+    (pick (eqb class opensClass) (pick (leb value 1) 0 12)
+    (pick (eqb class countClass) (pick (eqb value due) 0 13) (digitsFault class value))))
 
 unfoldable pub numberFault : ℕ → ℕ → Field → ℕ → ℕ
 numberFault class size f due =

@@ -26,6 +26,10 @@ pub const CLASS_OPENS: u64 = layout::kinds::CLASS_OPENS as u64;
 
 pub const CLASS_COUNT: u64 = layout::kinds::CLASS_COUNT as u64;
 
+pub const CLASS_CNPJ: u64 = layout::kinds::CLASS_CNPJ as u64;
+
+pub const CLASS_CPF: u64 = layout::kinds::CLASS_CPF as u64;
+
 const COMMA: u8 = 44;
 
 // A value is kept up to this, just above that of 14 digits, those of a CNPJ, and well above the largest number of lines.

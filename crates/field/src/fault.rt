@@ -1,9 +1,11 @@
 // What the bar after a field finds: the broken rule's number, 0 where none is broken.
 ghost use mathlib.Core.Path.{_≡_};
-ghost use Rattle.field.specs.Streaming.{emptyFault, rightForm, isExact, rightSize, contentFault, numberFault, isFixed};
-ghost use Rattle.field.specs.Streaming.{textFault, isTextClass, faultOf};
+ghost use Rattle.field.specs.Streaming.{emptyFault, rightForm, isExact, rightSize, digitsFault, contentFault, numberFault};
+ghost use Rattle.field.specs.Streaming.{isFixed, textFault, isTextClass, faultOf};
 use crate::bytes::CLASS_C;
+use crate::bytes::CLASS_CNPJ;
 use crate::bytes::CLASS_COUNT;
+use crate::bytes::CLASS_CPF;
 use crate::bytes::CLASS_DATE;
 use crate::bytes::CLASS_DECIMALS;
 use crate::bytes::CLASS_N_ANY;
@@ -11,6 +13,8 @@ use crate::bytes::CLASS_OPENS;
 use crate::bytes::Field;
 use crate::bytes::SIZE_UNIT;
 use crate::bytes::is_fixed_class;
+use crate::check_digits::is_cnpj;
+use crate::check_digits::is_cpf;
 use crate::date::is_date;
 
 const WRONG_CHARACTERS: u64 = 10;
@@ -20,6 +24,8 @@ const WRONG_SIZE: u64 = 11;
 const WRONG_CONTENT: u64 = 12;
 
 const UNTRUE_COUNT: u64 = 13;
+
+pub const WRONG_CHECK_DIGIT: u64 = 24;
 
 // Of an empty number: a count and field 2 of an opening must hold something.
 fn empty_fault(class: u64) -> u64
@@ -71,6 +77,19 @@ fn right_size(class: u64, size: u64, length: u64) -> bool
     true
 }
 
+// Rule 24 of a CNPJ and of a CPF.
+fn digits_fault(class: u64, value: u64) -> u64
+    ensures { λ r. ⌜ r ≡ digitsFault class value ⌝ }
+{
+    if class == CLASS_CNPJ {
+        return if is_cnpj(value) { 0 } else { WRONG_CHECK_DIGIT };
+    }
+    if class == CLASS_CPF {
+        return if is_cpf(value) { 0 } else { WRONG_CHECK_DIGIT };
+    }
+    0
+}
+
 // Of plain numbers, those of the classes up to decimals, nothing more is asked. Most are plain, so they are told first.
 fn content_fault(class: u64, value: u64, due: u64) -> u64
     ensures { λ r. ⌜ r ≡ contentFault class value due ⌝ }
@@ -87,7 +106,7 @@ fn content_fault(class: u64, value: u64, due: u64) -> u64
     if class == CLASS_COUNT {
         return if value == due { 0 } else { UNTRUE_COUNT };
     }
-    0
+    digits_fault(class, value)
 }
 
 fn number_fault(class: u64, size: u64, f: Field, due: u64) -> u64

@@ -5,7 +5,9 @@ use Rattle.layout.specs.Text.{bytes, codeNumber, textNumber}
 use Rattle.layout.specs.Rows.{rowTable, listed, code, fields, isOpening, isClosing, rowFrom, rowOfCode}
 use Rattle.layout.specs.Sheets.{sheets}
 use Rattle.layout.specs.Kinds.{kindOf, sheetOf, fitted, kindsOf, kind}
-use Rattle.layout.specs.Choices.{unequal, choices}
+use Rattle.layout.specs.Lists.{joinedParts}
+use Rattle.layout.specs.Packed.{kindNumber}
+use Rattle.layout.specs.Choices.{unequal, choices, digitFieldsFrom, digitFieldsOfRows, digitFields}
 
 pub unequal-rows : unequal rowTable ≡ "C305" ∷ "C310" ∷ "E500" ∷ []
 unfolding unequal sheetOf sheets rowTable
@@ -15,3 +17,9 @@ pub choices-stand : map (λ c. c .says) choices ≡ map (λ c. c .given) choices
 unfolding choices kind kindsOf fitted kindOf sheetOf sheets isOpening isClosing fields code rowOfCode rowFrom
     listed rowTable textNumber codeNumber bytes
 choices-stand = refl
+
+-- these fields, and no others, have check digits
+pub digit-fields : digitFieldsOfRows ≡ digitFields
+unfolding digitFieldsOfRows digitFieldsFrom digitFields joinedParts kindNumber kindsOf fitted kindOf sheetOf sheets isOpening isClosing
+    fields code listed rowTable textNumber codeNumber bytes
+digit-fields = refl

@@ -14,7 +14,7 @@ use lib.ListN.{length, getD, List·getD-eq-default}
 use borrow.Author.Tests.{ne-eqb, not-true}
 use Rattle.layout.specs.Text.{bytes, codeNumber, textNumber}
 use Rattle.layout.specs.Rows.{rowTable, rowCount, listed, code, fields, isOpening, isClosing, row9999}
-use Rattle.layout.specs.Kind.{Kind, codeField, C, N, N-, decimals, date, lfpd, brasil, opens, count, noField}
+use Rattle.layout.specs.Kind.{Kind, codeField, C, N, N-, decimals, date, cnpj, cpf, lfpd, brasil, opens, count, noField}
 use Rattle.layout.specs.Kind.{mostSize, isKnown}
 use Rattle.layout.specs.Sheets.{sheets}
 use Rattle.layout.specs.Kinds.{kindOf, sheetOf, fitted, kindsOf, kind, fieldCount, rowStart}
@@ -127,6 +127,8 @@ known-small (N s) t = let h = leb→le s mostSize (and-r (leb 1 s) (leb s mostSi
 known-small N- t = lit≤ tt
 known-small (decimals d) t = let h = leb→le d mostSize (and-r (leb 1 d) (leb d mostSize) t) in omega arith
 known-small date t = lit≤ tt
+known-small cnpj t = lit≤ tt
+known-small cpf t = lit≤ tt
 known-small lfpd t = lit≤ tt
 known-small brasil t = lit≤ tt
 known-small opens t = lit≤ tt

@@ -2,16 +2,18 @@
 -- the other texts part ways, with what each of them is here.
 use mathlib.Core.Bool.{Bool, not, _&&_, _||_}
 use mathlib.Core.List.{List, [], _∷_}
-use Prim.Native.Nat.{ℕ}
+use Prim.Native.Nat.{ℕ, suc}
 use Prim.Native.String.{String}
 use lib.Dec.{eqb}
 use lib.ListN.{length}
+use Rattle.layout.specs.Lists.{joinedParts}
 use Rattle.layout.specs.Pick.{pick}
 use Rattle.layout.specs.Text.{textNumber, sameText}
-use Rattle.layout.specs.Rows.{Listed, rowOfCode}
-use Rattle.layout.specs.Kind.{Kind, C, C-, N, N-, decimals, date, lfpd, brasil, noField}
+use Rattle.layout.specs.Rows.{Listed, rowCount, listed, rowOfCode}
+use Rattle.layout.specs.Kind.{Kind, C, C-, N, N-, decimals, date, cnpj, cpf, lfpd, brasil, noField}
 use Rattle.layout.specs.Sheets.{sheets}
-use Rattle.layout.specs.Kinds.{sheetOf, kind}
+use Rattle.layout.specs.Kinds.{sheetOf, kindsOf, kind}
+use Rattle.layout.specs.Packed.{kindNumber}
 
 -- the data lines and 0000 go by their sheets; openings and closings, of level 1, and 9999 don't
 abbrev goesBySheet : Listed → Bool
@@ -58,6 +60,50 @@ choices =
     -- only names that begin DT_ are dates: not PER_REF, a month and year
     choice "E360" 4 (N 6) ∷
     choice "E360" 7 date ∷
+    -- only names that begin CNPJ or CPF have check digits: not EQP_CNPJ
+    choice "F205" 4 (N 14) ∷
     -- the largest size: TXT
     choice "0450" 3 (C 65536) ∷
+    []
+
+-- a field that has check digits: its line's code, its number and its kind
+pub record DigitField : Type 0 where
+  pub code : String
+  pub number : ℕ
+  pub kind : Kind
+
+abbrev digitField : String → ℕ → Kind → DigitField
+digitField code n k = record { code = code; number = n; kind = k }
+
+abbrev hasCheckDigits : Kind → Bool
+hasCheckDigits k = eqb (kindNumber k) (kindNumber cnpj) || eqb (kindNumber k) (kindNumber cpf)
+
+-- those among a line's fields, from number n on
+unfoldable pub digitFieldsFrom : String → ℕ → List Kind → List DigitField
+digitFieldsFrom code n [] = []
+digitFieldsFrom code n (k ∷ ks) =
+    let rest = digitFieldsFrom code (suc n) ks in
+    pick (hasCheckDigits k) (digitField code n k ∷ rest) rest
+
+-- of all rows
+unfoldable pub digitFieldsOfRows : List DigitField
+digitFieldsOfRows = joinedParts rowCount (λ r. digitFieldsFrom (listed r .code) 1 (kindsOf r))
+
+-- the ones that docs/FIELDS.md lists
+unfoldable pub digitFields : List DigitField
+digitFields =
+    digitField "0000" 6 cnpj ∷
+    digitField "0000" 19 cpf ∷
+    digitField "0005" 4 cpf ∷
+    digitField "0100" 4 cnpj ∷
+    digitField "0100" 5 cpf ∷
+    digitField "0150" 5 cnpj ∷
+    digitField "0150" 6 cpf ∷
+    digitField "0465" 4 cnpj ∷
+    digitField "0465" 5 cpf ∷
+    digitField "C550" 2 cpf ∷
+    digitField "C550" 3 cnpj ∷
+    digitField "C600" 2 cpf ∷
+    digitField "C600" 3 cnpj ∷
+    digitField "F225" 4 cnpj ∷
     []

@@ -16,6 +16,10 @@ pub data Kind : Type 0 where
   decimals : ℕ → Kind
   -- "A field whose name begins DT_: a Gregorian date ddmmyyyy"
   date : Kind
+  -- 02, request h: "CNPJ and CPF fields (names beginning so) shall have right check digits"; 2.3.1: "CNPJ => (N, 14, -)", "CPF =>
+  -- (N, 11, -)"
+  cnpj : Kind
+  cpf : Kind
   -- "Fixed texts: field 2 of 0000 is LFPD, field 16 is Brasil"
   lfpd : Kind
   brasil : Kind
@@ -43,6 +47,8 @@ isKnown (N s) = leb 1 s && leb s mostSize
 isKnown N- = true
 isKnown (decimals d) = leb 1 d && leb d mostSize
 isKnown date = true
+isKnown cnpj = true
+isKnown cpf = true
 isKnown lfpd = true
 isKnown brasil = true
 isKnown opens = true

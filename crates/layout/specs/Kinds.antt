@@ -8,12 +8,15 @@ use lib.ListN.{getD}
 use Rattle.layout.specs.Pick.{pick}
 use Rattle.layout.specs.Text.{sameText, begins}
 use Rattle.layout.specs.Rows.{listed, fields, isOpening, isClosing, row9999}
-use Rattle.layout.specs.Kind.{Kind, codeField, C-, date, opens, count, noField}
+use Rattle.layout.specs.Kind.{Kind, codeField, C-, date, cnpj, cpf, opens, count, noField}
 use Rattle.layout.specs.Sheets.{Entry, LIN, Sheet, sheets}
 
--- "A field whose name begins DT_: a Gregorian date"; of the others the columns decide
+-- "A field whose name begins DT_: a Gregorian date"; 02, request h: "CNPJ and CPF fields (names beginning so)"; of the others
+-- the columns decide
 unfoldable pub kindOf : Entry → Kind
-kindOf e = pick (begins "DT_" (e .name)) date (e .columns)
+kindOf e =
+    pick (begins "DT_" (e .name)) date
+    (pick (begins "CNPJ" (e .name)) cnpj (pick (begins "CPF" (e .name)) cpf (e .columns)))
 
 -- what the sheet of a code lists; C305 has no sheet, and of it only field 1, the code, is known
 unfoldable pub sheetOf : String → List Sheet → List Entry

@@ -5,7 +5,7 @@ use lib.ListN.{replicate, set}
 use Rattle.layout.specs.Lists.{tabulate, joinedParts}
 use Rattle.layout.specs.Text.{textNumber}
 use Rattle.layout.specs.Rows.{Listed, rowTable, noRow, rowCount, none, code, parent}
-use Rattle.layout.specs.Kind.{Kind, codeField, C, N, N-, decimals, date, lfpd, brasil, opens, count, noField}
+use Rattle.layout.specs.Kind.{Kind, codeField, C, N, N-, decimals, date, cnpj, cpf, lfpd, brasil, opens, count, noField}
 use Rattle.layout.specs.Kind.{mostSize}
 use Rattle.layout.specs.Kinds.{kindsOf, rowStart}
 
@@ -61,6 +61,12 @@ opensClass = 9
 abbrev pub countClass : ℕ
 countClass = 10
 
+abbrev pub cnpjClass : ℕ
+cnpjClass = 11
+
+abbrev pub cpfClass : ℕ
+cpfClass = 12
+
 -- a kind: its class, and so many times its size; where the size is not asked of the field, it is 0
 abbrev pub sizeUnit : ℕ
 sizeUnit = 16
@@ -72,6 +78,8 @@ kindNumber (N n) = nClass + sizeUnit * n
 kindNumber N- = nAnyClass
 kindNumber (decimals d) = decimalsClass + sizeUnit * d
 kindNumber date = dateClass + sizeUnit * 8
+kindNumber cnpj = cnpjClass + sizeUnit * 14
+kindNumber cpf = cpfClass + sizeUnit * 11
 kindNumber lfpd = lfpdClass + sizeUnit * 4
 kindNumber brasil = brasilClass + sizeUnit * 6
 kindNumber opens = opensClass + sizeUnit * 1

@@ -49,6 +49,11 @@ pub const CLASS_OPENS: u32 = 9;
 // Field 2 of a closing and of 9999.
 pub const CLASS_COUNT: u32 = 10;
 
+// Digits with check digits: a CNPJ, a CPF.
+pub const CLASS_CNPJ: u32 = 11;
+
+pub const CLASS_CPF: u32 = 12;
+
 // The kinds of the table below.
 const CODE: u32 = CLASS_CODE;
 
@@ -103,6 +108,10 @@ const DECIMALS_3: u32 = CLASS_DECIMALS + SIZE_UNIT * 3;
 const DECIMALS_6: u32 = CLASS_DECIMALS + SIZE_UNIT * 6;
 
 const DATE: u32 = CLASS_DATE + SIZE_UNIT * 8;
+
+const CNPJ: u32 = CLASS_CNPJ + SIZE_UNIT * 14;
+
+const CPF: u32 = CLASS_CPF + SIZE_UNIT * 11;
 
 const LFPD: u32 = CLASS_LFPD + SIZE_UNIT * 4;
 
@@ -243,7 +252,7 @@ const TABLE: [u32; FIELDS] = [
     DATE, // DT_INI
     DATE, // DT_FIN
     C255, // NOME_EMPR
-    N14, // CNPJ
+    CNPJ, // CNPJ
     C2, // UF
     C255, // IE
     N7, // COD_MUN
@@ -256,7 +265,7 @@ const TABLE: [u32; FIELDS] = [
     BRASIL, // PAIS
     C255, // FANTASIA
     N11, // NIRE
-    N11, // CPF
+    CPF, // CPF
     C0, // VAZIO2
     // 0001
     CODE,
@@ -265,7 +274,7 @@ const TABLE: [u32; FIELDS] = [
     CODE,
     C255, // NOME_RESP
     N3, // COD_ASSIN
-    N11, // CPF_RESP
+    CPF, // CPF_RESP
     N8, // CEP
     C255, // END
     C255, // NUM
@@ -303,8 +312,8 @@ const TABLE: [u32; FIELDS] = [
     CODE,
     C255, // NOME
     N3, // COD_ASSIN
-    N14, // CNPJ
-    N11, // CPF
+    CNPJ, // CNPJ
+    CPF, // CPF
     C10, // CRC
     N8, // CEP
     C255, // END
@@ -323,8 +332,8 @@ const TABLE: [u32; FIELDS] = [
     C255, // COD_PART
     C255, // NOME
     N5, // COD_PAIS
-    N14, // CNPJ
-    N11, // CPF
+    CNPJ, // CNPJ
+    CPF, // CPF
     C0, // VAZIO
     C2, // UF
     C255, // IE
@@ -403,8 +412,8 @@ const TABLE: [u32; FIELDS] = [
     CODE,
     N1, // IND_OPER
     N1, // IND_EMIT
-    N14, // CNPJ
-    N11, // CPF
+    CNPJ, // CNPJ
+    CPF, // CPF
     C2, // UF
     C255, // IE
     N7, // COD_MUN
@@ -510,8 +519,8 @@ const TABLE: [u32; FIELDS] = [
     DECIMALS_2, // ALIQ_ISS
     // C550
     CODE,
-    N11, // CPF_CONS
-    N14, // CNPJ_CONS
+    CPF, // CPF_CONS
+    CNPJ, // CNPJ_CONS
     C2, // COD_MOD
     N2, // COD_SIT
     C255, // SER
@@ -543,8 +552,8 @@ const TABLE: [u32; FIELDS] = [
     DECIMALS_2, // VL_ICMS_I
     // C600
     CODE,
-    N11, // CPF_CONS
-    N14, // CNPJ_CONS
+    CPF, // CPF_CONS
+    CNPJ, // CNPJ_CONS
     C2, // COD_MOD
     N2, // COD_SIT
     N_ANY, // ECF_CX
@@ -1070,7 +1079,7 @@ const TABLE: [u32; FIELDS] = [
     CODE,
     N1, // IND_OPER
     N1, // IND_EMIT
-    N14, // CNPJ
+    CNPJ, // CNPJ
     C2, // UF
     C255, // IE
     C2, // COD_MOD

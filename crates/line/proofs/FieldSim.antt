@@ -1,4 +1,4 @@
--- Rules 10 to 13 at the state of the bytes received: what the bar after a field finds.
+-- Rules 10 to 13 and 24 at the state of the bytes received: what the bar after a field finds.
 use mathlib.Core.Path.{_≡_, _∙_, refl, sym}
 use mathlib.Core.Bool.{Bool, true, false, not, _&&_, _||_}
 use mathlib.Core.List.{List}
@@ -83,15 +83,16 @@ opening-told seen z two o =
 abbrev faultFor : ℕ → ℕ → Fault
 faultFor n f = pick (eqb n 0) clear (breaks n f)
 
--- the four rules of a field's bar, as one number
-by-number : (a b c d : Bool) (f : ℕ)
-    → pick a (breaks 10 f) (pick b (breaks 11 f) (pick c (breaks 12 f) (pick d (breaks 13 f) clear)))
-    ≡ faultFor (pick a 10 (pick b 11 (pick c 12 (pick d 13 0)))) f
-by-number true b c d f = refl
-by-number false true c d f = refl
-by-number false false true d f = refl
-by-number false false false true f = refl
-by-number false false false false f = refl
+-- the five rules of a field's bar, as one number
+by-number : (a b c d e : Bool) (f : ℕ)
+    → pick a (breaks 10 f) (pick b (breaks 11 f) (pick c (breaks 12 f) (pick d (breaks 13 f) (pick e (breaks 24 f) clear))))
+    ≡ faultFor (pick a 10 (pick b 11 (pick c 12 (pick d 13 (pick e 24 0))))) f
+by-number true b c d e f = refl
+by-number false true c d e f = refl
+by-number false false true d e f = refl
+by-number false false false true e f = refl
+by-number false false false false true f = refl
+by-number false false false false false f = refl
 
 pub field-fault-is : (seen : List ℕ) → fieldFault seen ≡ faultFor (found seen) (bars seen)
 unfolding ruled formAtHand
@@ -99,4 +100,4 @@ field-fault-is seen =
     let w = word seen in
     let f = formOf (kind (rowAtHand seen) (bars seen)) in
     by-number (not (empty w) && not (f .characters w)) (not (empty w) && not (f .size (length w))) (not (f .content w))
-    (f .isCount && not (states (due (rowAtHand seen) (rows seen)) w)) (bars seen)
+    (f .isCount && not (states (due (rowAtHand seen) (rows seen)) w)) (not (empty w) && not (f .digits w)) (bars seen)

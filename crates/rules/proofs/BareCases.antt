@@ -12,7 +12,7 @@ use Rattle.rules.specs.CheckDigits
 use Rattle.rules.specs.Fields
 use Rattle.rules.specs.Rules
 use Rattle.rules.specs.BareCases.{rowNamed, rowsNamed, placed, dueAfter, lineCases, numberOf, brokenAfter, dated, byteCases}
-use Rattle.rules.specs.BareCases.{digitAfter, digitCases}
+use Rattle.rules.specs.BareCases.{digitAfter, brokenDigits, digitCases, checkedBarCases}
 
 pub line-cases : map (λ c. c .says) lineCases ≡ map (λ c. c .given) lineCases
 unfolding lineCases rowNamed rowsNamed placed dueAfter Text.bytes Text.codeNumber Text.textNumber Rows.rowTable
@@ -23,7 +23,8 @@ unfolding lineCases rowNamed rowsNamed placed dueAfter Text.bytes Text.codeNumbe
 line-cases = refl
 
 pub digit-cases : map (λ c. c .says) digitCases ≡ map (λ c. c .given) digitCases
-unfolding digitCases digitAfter Text.bytes CheckDigits.digitsOf CheckDigits.weighed CheckDigits.checkDigit
+unfolding digitCases digitAfter brokenDigits Text.bytes CheckDigits.digitsOf CheckDigits.weighed CheckDigits.checkDigit
+    CheckDigits.rightAfter CheckDigits.bothRight CheckDigits.isCnpj CheckDigits.isCpf Fields.formOf
 digit-cases = refl
 
 pub byte-cases : map (λ c. c .says) byteCases ≡ map (λ c. c .given) byteCases
@@ -35,5 +36,18 @@ unfolding byteCases numberOf brokenAfter dated Text.bytes Text.codeNumber Text.t
     Fields.daysOf Fields.isDate Fields.sameBytes Fields.isText Fields.formOf Rules.inField Rules.pastFields
     Rules.isCodeBar Rules.isFieldBar Rules.formAtHand Rules.breaks1 Rules.breaks2 Rules.breaks3 Rules.breaks4
     Rules.breaks5 Rules.breaks6 Rules.breaks7 Rules.breaks8 Rules.breaks9 Rules.breaks10 Rules.breaks11
-    Rules.breaks12 Rules.breaks13 Rules.rules Rules.firstBroken
+    Rules.breaks12 Rules.breaks13 Rules.breaks24 Rules.rules Rules.firstBroken
 byte-cases = refl
+
+pub checked-bar-cases : map (λ c. c .says) checkedBarCases ≡ map (λ c. c .given) checkedBarCases
+unfolding checkedBarCases numberOf brokenAfter Text.bytes Text.codeNumber Text.textNumber Rows.rowTable
+    Rows.listed Rows.code Rows.fields Rows.isOpening Rows.isClosing Rows.rowFrom Rows.rowOfCode Sheets.sheets
+    Kinds.kindOf Kinds.sheetOf Kinds.fitted Kinds.kindsOf Kinds.kind Bytes.cut Bytes.lineAtHand
+    Bytes.part Bytes.field Bytes.rowOfWord Bytes.rowOf Bytes.rowAtHand Bytes.bars Bytes.word Bytes.empty
+    Bytes.isEndByte CheckDigits.digitsOf CheckDigits.weighed CheckDigits.checkDigit CheckDigits.rightAfter CheckDigits.bothRight
+    CheckDigits.isCnpj CheckDigits.isCpf Fields.isDigit Fields.allDigits Fields.value Fields.isDecimal Fields.isLeapYear
+    Fields.daysOf Fields.isDate Fields.sameBytes Fields.isText Fields.formOf Rules.inField Rules.pastFields
+    Rules.isCodeBar Rules.isFieldBar Rules.formAtHand Rules.breaks1 Rules.breaks2 Rules.breaks3 Rules.breaks4
+    Rules.breaks5 Rules.breaks6 Rules.breaks7 Rules.breaks8 Rules.breaks9 Rules.breaks10 Rules.breaks11
+    Rules.breaks12 Rules.breaks13 Rules.breaks24 Rules.rules Rules.firstBroken
+checked-bar-cases = refl

@@ -1,12 +1,12 @@
--- 01, "Both sides of each rule": starred cases and others, each for one rule, without the bytes around it. The starred cases
--- are whole files (Cases); these are short enough that a check which refuses one prints the two numbers that differ.
+-- 01, "Both sides of each rule", and 02, request h: starred cases and others, each for one rule, without the bytes around it. The
+-- starred cases are whole files (Cases); these are short enough that a check which refuses one prints the two numbers that differ.
 use mathlib.Core.List.{List, [], _∷_, map, reverse}
 use Prim.Native.Nat.{ℕ}
 use Prim.Native.String.{String}
 use Rattle.layout.specs.Pick.{pick}
 use Rattle.layout.specs.Text.{bytes, textNumber}
 use Rattle.layout.specs.Rows.{rowOfCode}
-use Rattle.layout.specs.Kind.{date}
+use Rattle.layout.specs.Kind.{Kind, date, cnpj, cpf}
 use Rattle.rules.specs.Bytes.{bar, CR, LF}
 use Rattle.rules.specs.Order.{canStand, hasRoom}
 use Rattle.rules.specs.Counts.{due}
@@ -14,7 +14,7 @@ use Rattle.rules.specs.CheckDigits.{digitsOf, checkDigit, cnpjWeights, c
 use Rattle.rules.specs.Fields.{formOf}
 use Rattle.rules.specs.Rules.{Fault, clear, breaks, rules, firstBroken}
 
--- the number that 01 says, and the one that the definitions give
+-- the number that the documents say, and the one that the definitions give
 pub record Bare : Type 0 where
   pub says : ℕ
   pub given : ℕ
@@ -70,9 +70,12 @@ brokenAfter line b = numberOf (firstBroken rules (reverse (bytes line)) b)
 unfoldable pub dated : String → ℕ
 dated text = pick (formOf date .content (reverse (bytes text))) 0 12
 
--- 02, request h: the digit that these must be followed by
+-- 02, request h: the digit that these must be followed by; rule 24 of a CNPJ or CPF, 0 where its check digits are right
 unfoldable pub digitAfter : List ℕ → String → ℕ
 digitAfter weights text = checkDigit weights (digitsOf (reverse (bytes text)))
+
+unfoldable pub brokenDigits : Kind → String → ℕ
+brokenDigits k text = pick (formOf k .digits (reverse (bytes text))) 0 24
 
 unfoldable pub digitCases : List Bare
 digitCases =
@@ -85,7 +88,30 @@ digitCases =
     bare 0 (digitAfter cnpjWeights "000000000040") ∷
     bare 9 (digitAfter cnpjWeights "000000000001") ∷
     bare 1 (digitAfter cnpjWeights "000000000005") ∷
-    bare 0 (digitAfter cnpjWeights "000000000000") ∷
+    -- "11222333000181 stands and 11222333000144 does not"; nor does it where one of the two is wrong alone
+    bare 0 (brokenDigits cnpj "11222333000181") ∷
+    bare 24 (brokenDigits cnpj "11222333000144") ∷
+    bare 24 (brokenDigits cnpj "11222333000149") ∷
+    bare 24 (brokenDigits cnpj "11222333000182") ∷
+    -- a CPF, and its two check digits exchanged
+    bare 0 (brokenDigits cpf "52998224725") ∷
+    bare 24 (brokenDigits cpf "52998224752") ∷
+    -- "Equal digits throughout are judged by the sums alone"
+    bare 24 (brokenDigits cnpj "11111111111111") ∷
+    bare 0 (brokenDigits cpf "11111111111") ∷
+    bare 0 (brokenDigits cnpj "00000000000000") ∷
+    []
+
+-- rule 24 among the others of its bar
+unfoldable pub checkedBarCases : List Bare
+checkedBarCases =
+    -- field 5 of 0150: wrong check digits: 24; a digit less: 11; with a letter: 10; "an empty field passes"
+    bare 24 (brokenAfter "|0150||||11222333000144" bar) ∷
+    bare 11 (brokenAfter "|0150||||1122233300014" bar) ∷
+    bare 10 (brokenAfter "|0150||||1122233300014X" bar) ∷
+    bare 0 (brokenAfter "|0150||||" bar) ∷
+    -- EQP_CNPJ of F205 does not begin with CNPJ
+    bare 0 (brokenAfter "|F205|||11222333000144" bar) ∷
     []
 
 unfoldable pub byteCases : List Bare

@@ -1,4 +1,4 @@
--- 01, "Both sides of each rule": the cases marked *, each a file and the answer to finish.
+-- 01, "Both sides of each rule": the cases marked *, and 02's examples, each a file and the answer to finish.
 use mathlib.Core.List.{List, [], _∷_, _++_}
 use Prim.Native.Nat.{ℕ}
 use Prim.Native.String.{String}
@@ -27,6 +27,13 @@ closing0 = "|0990|3|\r\n" ∷ "|9001|1|\r\n" ∷ "|9990|3|\r\n" ∷ "|9999|6|\r\
 abbrev closing9 : List String
 closing9 = "|9001|1|\r\n" ∷ "|9990|3|\r\n" ∷ "|9999|6|\r\n" ∷ []
 
+-- Base with a CNPJ in field 6 of its first line, and with a CPF in field 19
+abbrev withCnpj : String → List String
+withCnpj cnpj = "|0000|LFPD|01012012|31012012|Loja Um|" ∷ cnpj ∷ "||||||||||Brasil|||||\r\n" ∷ "|0001|1|\r\n" ∷ closing0
+
+abbrev withCpf : String → List String
+withCpf cpf = "|0000|LFPD|01012012|31012012|Loja Um|||||||||||Brasil|||" ∷ cpf ∷ "||\r\n" ∷ "|0001|1|\r\n" ∷ closing0
+
 -- number, line, field, lines ended, bytes judged; the first line has 60 bytes, each other line of Base 10
 unfoldable pub cases : List Case
 cases =
@@ -50,6 +57,11 @@ cases =
     -- 29022012 in field 3: accepted; 29022011: 12
     case ("|0000|LFPD|29022012|31012012|Loja Um|||||||||||Brasil|||||\r\n" ∷ "|0001|1|\r\n" ∷ closing0) (accepted 6 110) ∷
     case ("|0000|LFPD|29022011|31012012|Loja Um|||||||||||Brasil|||||\r\n" ∷ "|0001|1|\r\n" ∷ closing0) (refused 12 1 3 0 20) ∷
+    -- 02, request h: 11222333000181 stands, 11222333000144 does not: 24, field 6; the same for a CPF, field 19
+    case (withCnpj "11222333000181") (accepted 6 124) ∷
+    case (withCnpj "11222333000144") (refused 24 1 6 0 52) ∷
+    case (withCpf "52998224725") (accepted 6 121) ∷
+    case (withCpf "52998224752") (refused 24 1 19 0 68) ∷
     -- Base plus byte 26: 15, line 7
     case (first ∷ "|0001|1|\r\n" ∷ closing0 ++ "\u{1a}" ∷ []) (refused 15 7 0 6 111) ∷
     []

@@ -8,8 +8,9 @@ use lib.Dec.{eqb, leb}
 use lib.ListN.{getD, take, drop}
 use Rattle.layout.specs.Pick.{pick}
 use Rattle.layout.specs.Text.{bytes}
-use Rattle.layout.specs.Kind.{Kind, codeField, C, N, N-, decimals, date, lfpd, brasil, opens, count, noField}
+use Rattle.layout.specs.Kind.{Kind, codeField, C, N, N-, decimals, date, cnpj, cpf, lfpd, brasil, opens, count, noField}
 use Rattle.rules.specs.Bytes.{empty}
+use Rattle.rules.specs.CheckDigits.{digitsOf, isCnpj, isCpf}
 
 unfoldable pub isDigit : ℕ → Bool
 isDigit b = leb 48 b && leb b 57
@@ -71,6 +72,8 @@ pub record Form : Type 0 where
   pub content : List ℕ → Bool
   -- rule 13, "count empty or untrue"
   pub isCount : Bool
+  -- 02, request h, rule 24, "wrong check digit", where the field is not empty
+  pub digits : List ℕ → Bool
 
 abbrev any : {A : Type 0} → A → Bool
 any x = true
@@ -82,9 +85,16 @@ abbrev exactly : ℕ → ℕ → Bool
 exactly s n = eqb n s
 
 abbrev form : (List ℕ → Bool) → (ℕ → Bool) → (List ℕ → Bool) → Form
-form characters size content = record { characters = characters; size = size; content = content; isCount = false }
+form characters size content =
+    record { characters = characters; size = size; content = content; isCount = false; digits = any }
 
--- a date is N of size 8, field 2 of an opening N of size 1, the fixed texts C of sizes 4 and 6; counts are digits of any length
+-- digits of a size, the last two of them check digits
+abbrev withCheckDigits : ℕ → (List ℕ → Bool) → Form
+withCheckDigits s right =
+    record { characters = allDigits; size = exactly s; content = any; isCount = false; digits = λ w. right (digitsOf w) }
+
+-- a date is N of size 8, a CNPJ of 14, a CPF of 11, field 2 of an opening of 1, the fixed texts C of sizes 4 and 6; counts are
+-- digits of any length
 unfoldable pub formOf : Kind → Form
 formOf codeField = form any any any
 formOf (C s) = form any (atMost s) any
@@ -92,10 +102,12 @@ formOf (N s) = form allDigits (exactly s) any
 formOf N- = form allDigits any any
 formOf (decimals d) = form (isDecimal d) any any
 formOf date = form allDigits (exactly 8) (λ w. empty w || isDate (value w))
+formOf cnpj = withCheckDigits 14 isCnpj
+formOf cpf = withCheckDigits 11 isCpf
 formOf lfpd = form any (atMost 4) (isText "LFPD")
 formOf brasil = form any (atMost 6) (isText "Brasil")
 formOf opens = form allDigits (exactly 1) (λ w. isText "0" w || isText "1" w)
-formOf count = record { characters = allDigits; size = any; content = any; isCount = true }
+formOf count = record { characters = allDigits; size = any; content = any; isCount = true; digits = any }
 formOf noField = form any any any
 
 -- a count states the number n

@@ -1,4 +1,4 @@
--- 01, "What a refusal says": rules 1 to 13, 15 and 16, one by one, and which of them a byte breaks.
+-- 01, "What a refusal says": rules 1 to 13, 15 and 16, and 02's 24, one by one, and which of them a byte breaks.
 -- `seen` has the bytes received before the byte b, the latest first.
 use mathlib.Core.Bool.{Bool, false, not, _&&_, _||_}
 use mathlib.Core.List.{List, [], _∷_}
@@ -94,6 +94,10 @@ breaks12 seen b = isFieldBar seen b && not (formAtHand seen .content (word seen)
 unfoldable pub breaks13 : List ℕ → ℕ → Bool
 breaks13 seen b = isFieldBar seen b && formAtHand seen .isCount && not (states (due (rowAtHand seen) (rows seen)) (word seen))
 
+-- 24, by 02, request h: "wrong check digit"; "an empty field passes"
+unfoldable pub breaks24 : List ℕ → ℕ → Bool
+breaks24 seen b = isFieldBar seen b && not (empty (word seen)) && not (formAtHand seen .digits (word seen))
+
 -- 15: "a byte after 9999's LF"
 unfoldable pub isLastLine : List (List ℕ) → Bool
 isLastLine [] = false
@@ -109,7 +113,7 @@ byteLimit = 4294967295
 unfoldable pub full : List ℕ → Bool
 full seen = leb byteLimit (length seen)
 
--- The table of 01, without 14 to 19: a rule's number, when it is broken, and the field that the refusal names.
+-- The table of 01 without 14 to 19, and after it 02's 24: a rule's number, when it is broken, and the field that the refusal names.
 pub record Rule : Type 0 where
   pub number : ℕ
   pub broken : List ℕ → ℕ → Bool
@@ -136,6 +140,7 @@ rules =
     rule 11 breaks11 bars ∷
     rule 12 breaks12 bars ∷
     rule 13 breaks13 bars ∷
+    rule 24 breaks24 bars ∷
     []
 
 -- what a byte breaks: nothing, or a rule by its number, with the field

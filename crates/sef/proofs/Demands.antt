@@ -35,7 +35,7 @@ use Rattle.sef.specs.declared.answers.FinalAnswer.{FinalAnswer}
 use Rattle.sef.specs.declared.answers.FinalAnswer.the-variants as Final
 use Rattle.sef.specs.declared.answers.ReportAnswer.{ReportAnswer}
 use Rattle.sef.specs.declared.answers.ReportAnswer.the-variants as Report
-use Rattle.sef.proofs.RangeLaws.{kept-refusal, no-field}
+use Rattle.sef.proofs.RangeLaws.{kept-refusal, no-field, OfRule, of-rule, not-of-call, rule-some}
 use Rattle.sef.proofs.RunLaws.{Comes, opens, stops-by}
 use Rattle.sef.proofs.InRangeLaws.{stopped-ranged, Pieces, late, kept, run, check-pieces, Finishing, closes}
 use Rattle.sef.proofs.InRangeLaws.{finish-finishing}
@@ -50,12 +50,12 @@ module _ (s : State) where
       → InTable (refused (s .rule) (s .hot .lines + 1) (s .field) (s .hot .lines) (s .hot .bytes))
   kept-number e z =
       let k = kept-refusal s e z in
-      byRule (s .rule) (s .field) (s .hot .lines) (s .hot .bytes) (omega arith) (k .0) (k .1)
+      byRule (s .rule) (s .field) (s .hot .lines) (s .hot .bytes) (k .0) (k .1)
 
   comes-in-table : (c : Checked) → Comes c → InTable (said (c .answer))
   unfolding openOf stoppedOf said
   comes-in-table c (opens h t d) = isOpen (h .lines) (h .bytes)
-  comes-in-table c (stops-by h t rule field d one most named) = byRule rule field (h .lines) (h .bytes + 1) one most named
+  comes-in-table c (stops-by h t rule field d is named) = byRule rule field (h .lines) (h .bytes + 1) is named
 
   pieces-in-table : rangedOf s ≡ true → (piece : List ℕ) (c : Checked) → Pieces s piece c → InTable (said (c .answer))
   unfolding said keptOf
@@ -71,7 +71,7 @@ module _ (s : State) where
   finals-in-table : rangedOf s ≡ true → (a : FinalAnswer) → Finals s a → InTable (finallySaid a)
   unfolding finallySaid keptOf
   finals-in-table e a accepts = D.accepts (s .hot .lines) (s .hot .bytes)
-  finals-in-table e a short = byRule 14 0 (s .hot .lines) (s .hot .bytes) (omega arith) (omega arith) (omega arith)
+  finals-in-table e a short = byRule 14 0 (s .hot .lines) (s .hot .bytes) refl (omega arith)
   finals-in-table e a (keeps z) = kept-number e z
 
   finishing-in-table : rangedOf s ≡ true → (c : Finished) → Finishing s c → InTable (finallySaid (c .answer))
@@ -95,8 +95,8 @@ module _ (s : State) where
 finals-answered : (s : State) → rangedOf s ≡ true → (a : FinalAnswer) → Finals s a → Answered (finallySaid a)
 unfolding finallySaid keptOf
 finals-answered s e a accepts = isAccepted
-finals-answered s e a short = isRefused {number = 14} (omega arith) (omega arith)
-finals-answered s e a (keeps z) = isRefused {number = s .rule} (omega arith) (kept-refusal s e z .0)
+finals-answered s e a short = isRefused {number = 14} refl
+finals-answered s e a (keeps z) = isRefused {number = s .rule} (kept-refusal s e z .0)
 
 finish-answered : (file : List ℕ) (s : State) (r : Finished) → Reached file s → Finishes s r → Answered (finallySaid (r .answer))
 finish-answered file s r h c =
@@ -187,7 +187,7 @@ then-late-or-no-room s e = (
 comes-sane : (c : Checked) → Comes c → c .answer ≡ Piece.Damaged → ⊥
 unfolding openOf stoppedOf
 comes-sane c (opens h t d) q = let z : _≡_ {A = ℕ} 0 1 = cc in omega arith
-comes-sane c (stops-by h t rule field d one most named) q = let z : _≡_ {A = ℕ} 0 1 = cc in omega arith
+comes-sane c (stops-by h t rule field d is named) q = let z : _≡_ {A = ℕ} 0 1 = cc in omega arith
 
 piece-sane : (s : State) (piece : List ℕ) (c : Checked) → Pieces s piece c → c .answer ≡ Piece.Damaged → ⊥
 piece-sane s piece c (late d) q = let z : _≡_ {A = ℕ} 0 1 = cc in omega arith
@@ -221,65 +221,70 @@ ranges-closed s e = (
 pub given-in-range : D.GivenInRange
 given-in-range = given-ranged
 
--- 17 to 19 alone have a number from 17 on
+-- 17 to 19 are no rule's numbers
 module _ (s : State) where
-  comes-low : (c : Checked) → Comes c → numbersOf (said (c .answer)) .refusal ≤ 16
+  comes-of-rule : (c : Checked) → Comes c → OfRule (numbersOf (said (c .answer)) .refusal)
   unfolding openOf stoppedOf numbersOf said
-  comes-low c (opens h t d) = omega arith
-  comes-low c (stops-by h t rule field d one most named) = most
+  comes-of-rule c (opens h t d) = refl
+  comes-of-rule c (stops-by h t rule field d is named) = of-rule rule is
+
+  kept-of-rule : rangedOf s ≡ true → (s .rule ≡ 0 → ⊥) → OfRule (s .rule)
+  kept-of-rule e z = of-rule (s .rule) (kept-refusal s e z .0)
 
   abbrev Nothing : Numbers → State → ℕ → Type 0
   Nothing k t n = (k ≡ numbers n 0 0 0 0) × (t ≡ s)
 
   pieces-nothing : rangedOf s ≡ true → (piece : List ℕ) (c : Checked) → Pieces s piece c → (n : ℕ)
-      → numbersOf (said (c .answer)) .refusal ≡ n → 17 ≤ n → Nothing (numbersOf (said (c .answer))) (c .state) n
+      → numbersOf (said (c .answer)) .refusal ≡ n → 17 ≤ n → n ≤ 19 → Nothing (numbersOf (said (c .answer))) (c .state) n
   unfolding numbersOf said keptOf
-  pieces-nothing e piece c (late d) n q l = (rw q, refl)
-  pieces-nothing e piece c (kept d z) n q l = absurd (omega (arith, kept-refusal s e z .0))
-  pieces-nothing e piece c (run d z comes) n q l = absurd (omega (arith, comes-low c comes))
+  pieces-nothing e piece c (late d) n q l m = (rw q, refl)
+  pieces-nothing e piece c (kept d z) n q l m = not-of-call n (rw (← q) (kept-of-rule e z)) l m
+  pieces-nothing e piece c (run d z comes) n q l m = not-of-call n (rw (← q) (comes-of-rule c comes)) l m
 
   piece-nothing : (piece : List ℕ) (c : Checked) → AnyPiece s piece c → (n : ℕ)
-      → numbersOf (said (c .answer)) .refusal ≡ n → 17 ≤ n → Nothing (numbersOf (said (c .answer))) (c .state) n
+      → numbersOf (said (c .answer)) .refusal ≡ n → 17 ≤ n → n ≤ 19 → Nothing (numbersOf (said (c .answer))) (c .state) n
   unfolding numbersOf said
-  piece-nothing piece c (damaged e) n q l = (rw q, refl)
-  piece-nothing piece c (ranged e p) n q l = pieces-nothing e piece c p n q l
+  piece-nothing piece c (damaged e) n q l m = (rw q, refl)
+  piece-nothing piece c (ranged e p) n q l m = pieces-nothing e piece c p n q l m
 
-  finals-low : rangedOf s ≡ true → (a : FinalAnswer) → Finals s a → numbersOf (finallySaid a) .refusal ≤ 16
+  finals-of-rule : rangedOf s ≡ true → (a : FinalAnswer) → Finals s a → OfRule (numbersOf (finallySaid a) .refusal)
   unfolding numbersOf finallySaid keptOf
-  finals-low e a accepts = omega arith
-  finals-low e a short = omega arith
-  finals-low e a (keeps z) = kept-refusal s e z .0
+  finals-of-rule e a accepts = refl
+  finals-of-rule e a short = refl
+  finals-of-rule e a (keeps z) = kept-of-rule e z
 
   finishing-nothing : rangedOf s ≡ true → (c : Finished) → Finishing s c → (n : ℕ)
-      → numbersOf (finallySaid (c .answer)) .refusal ≡ n → 17 ≤ n → Nothing (numbersOf (finallySaid (c .answer))) (c .state) n
+      → numbersOf (finallySaid (c .answer)) .refusal ≡ n → 17 ≤ n → n ≤ 19
+      → Nothing (numbersOf (finallySaid (c .answer))) (c .state) n
   unfolding numbersOf finallySaid
-  finishing-nothing e c (late d) n q l = (rw q, refl)
-  finishing-nothing e c (closes d) n q l = absurd (omega (arith, finals-low e (finalAnswerOf s) (finals s)))
+  finishing-nothing e c (late d) n q l m = (rw q, refl)
+  finishing-nothing e c (closes d) n q l m = not-of-call n (rw (← q) (finals-of-rule e (finalAnswerOf s) (finals s))) l m
 
   finish-nothing : (c : Finished) → AnyFinish s c → (n : ℕ)
-      → numbersOf (finallySaid (c .answer)) .refusal ≡ n → 17 ≤ n → Nothing (numbersOf (finallySaid (c .answer))) (c .state) n
+      → numbersOf (finallySaid (c .answer)) .refusal ≡ n → 17 ≤ n → n ≤ 19
+      → Nothing (numbersOf (finallySaid (c .answer))) (c .state) n
   unfolding numbersOf finallySaid
-  finish-nothing c (damaged e) n q l = (rw q, refl)
-  finish-nothing c (ranged e p) n q l = finishing-nothing e c p n q l
+  finish-nothing c (damaged e) n q l m = (rw q, refl)
+  finish-nothing c (ranged e p) n q l m = finishing-nothing e c p n q l m
 
   report-nothing : (before : List ℕ) (r : ReportAnswer) (after : List ℕ) → AnyReport s before r after → (n : ℕ)
-      → reportSaid r .refusal ≡ n → 17 ≤ n → (reportSaid r ≡ numbers n 0 0 0 0) × (after ≡ before)
+      → reportSaid r .refusal ≡ n → 17 ≤ n → n ≤ 19 → (reportSaid r ≡ numbers n 0 0 0 0) × (after ≡ before)
   unfolding reportSaid
-  report-nothing before r after (damaged e) n q l = (rw q, refl)
-  report-nothing before r after (no-room e) n q l = (rw q, refl)
-  report-nothing before r after (writes e) n q l = absurd (omega arith)
+  report-nothing before r after (damaged e) n q l m = (rw q, refl)
+  report-nothing before r after (no-room e) n q l m = (rw q, refl)
+  report-nothing before r after (writes e) n q l m = absurd (omega arith)
 
 pub three-change-nothing : D.ThreeChangeNothing
 three-change-nothing = (
-  (λ s piece r all c n q l.
+  (λ s piece r all c n q l m.
       subst (λ x. Nothing s (numbersOf (said (x .answer))) (x .state) n) (sym (c .exact))
       (piece-nothing s piece (checkOf s piece) (any-piece s piece all) n
-      (ap (λ x. numbersOf (said (x .answer)) .refusal) (sym (c .exact)) ∙ q) l)),
-  (λ s r c n q l.
+      (ap (λ x. numbersOf (said (x .answer)) .refusal) (sym (c .exact)) ∙ q) l m)),
+  (λ s r c n q l m.
       subst (λ x. Nothing s (numbersOf (finallySaid (x .answer))) (x .state) n) (sym (c .exact))
       (finish-nothing s (finishOf s) (any-finish s) n
-      (ap (λ x. numbersOf (finallySaid (x .answer)) .refusal) (sym (c .exact)) ∙ q) l)),
-  (λ s before r after c n q l. report-nothing s before r after (report-any s before r after c) n q l),
+      (ap (λ x. numbersOf (finallySaid (x .answer)) .refusal) (sym (c .exact)) ∙ q) l m)),
+  (λ s before r after c n q l m. report-nothing s before r after (report-any s before r after c) n q l m),
 )
 
 -- a state in range that keeps a refusal gives it to every piece, and to a finish
@@ -298,8 +303,8 @@ module _ (s : State) (e : rangedOf s ≡ true) (d : s .finished ≡ false) (z : 
 comes-stays : (c : Checked) → Comes c → (n : Numbers) → c .answer ≡ Piece.Refused n → Stays c n
 unfolding openOf stoppedOf keptOf
 comes-stays c (opens h t d) n q = absurd (let z : _≡_ {A = ℕ} 0 1 = cc in omega arith)
-comes-stays c (stops-by h t rule field d one most named) n q =
-    stays (stoppedOf h t rule field .state) (stopped-ranged h t rule field d one most named) refl (λ z. omega arith) n q
+comes-stays c (stops-by h t rule field d is named) n q =
+    stays (stoppedOf h t rule field .state) (stopped-ranged h t rule field d is named) refl (rule-some rule is) n q
 
 module _ (s : State) (piece : List ℕ) where
   pieces-stay : rangedOf s ≡ true → (c : Checked) → Pieces s piece c → (n : Numbers) → c .answer ≡ Piece.Refused n → Stays c n

@@ -10,7 +10,7 @@ use Rattle.layout.specs.Pick.{pick}
 use Rattle.line.specs.Machine.{mostBars}
 use Rattle.sef.specs.Calls.{stateOf, openOf, stoppedOf, judgedOne, runOf, fresh, keptOf, unchanged, checkOf, finalAnswerOf}
 use Rattle.sef.specs.Calls.{closedOf, finallyUnchanged, finishOf}
-use Rattle.sef.specs.Ranges.{withinTo, lineRanged, hotRanged, mostRule, refusalRanged, tallyRanged, rangedOf, Held}
+use Rattle.sef.specs.Ranges.{withinTo, lineRanged, hotRanged, isRule, refusalRanged, tallyRanged, rangedOf, Held}
 use Rattle.sef.specs.Ranges.{TallyFit}
 use Rattle.sef.specs.Promises.{AllBytes}
 use Rattle.line.specs.declared.hot.Hot.{Hot}
@@ -43,17 +43,17 @@ judged-tally h t d =
       occurrences = λ k l. omega (arith, f .occurrences k l);
     }
 
-pub stopped-ranged : (h : Hot) (t : Tally) (rule field : ℕ) → Held h t → 1 ≤ rule → rule ≤ mostRule → field ≤ mostBars
+pub stopped-ranged : (h : Hot) (t : Tally) (rule field : ℕ) → Held h t → isRule rule ≡ true → field ≤ mostBars
     → rangedOf (stoppedOf h t rule field .state) ≡ true
 unfolding stoppedOf
-stopped-ranged h t rule field d one most named =
+stopped-ranged h t rule field d is named =
     ranged-by (stateOf (judgedOne h) rule field false t) (judged-fit h (d .fit) (d .withinLimit) (h .field) (omega (arith, d .fit .length)) (d .fit .wrong) (d .fit .value))
     (judged-tally h t d)
-    (broken-ranged rule field (h .bytes + 1) one most named)
+    (broken-ranged rule field (h .bytes + 1) is named)
 
 comes-ranged : (c : Checked) → Comes c → rangedOf (c .state) ≡ true
 comes-ranged c (opens h t d) = opened-ranged h t d
-comes-ranged c (stops-by h t rule field d one most named) = stopped-ranged h t rule field d one most named
+comes-ranged c (stops-by h t rule field d is named) = stopped-ranged h t rule field d is named
 
 -- A piece at a state in range: 17, what was refused, or what the bytes come to.
 pub data Pieces (s : State) (piece : List ℕ) : Checked → Type 0 where

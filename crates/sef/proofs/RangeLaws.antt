@@ -1,6 +1,6 @@
 -- The ranges: the loop that tests an array, and what the tests say, in both directions.
 use mathlib.Core.Path.{_≡_, refl}
-use mathlib.Core.Bool.{Bool, true, false, _&&_}
+use mathlib.Core.Bool.{Bool, true, false, _&&_, _||_, or-true}
 use mathlib.Core.List.{List}
 use Prim.Native.Nat.{ℕ, zero, suc, _+_, _-_, _<_, _≤_}
 use native.Mathlib.Omega.{arith}
@@ -12,10 +12,10 @@ use borrow.Author.Tests.{eq-eqb, ne-eqb, eqb-true, le-leb, lt-leb, leb-true}
 use Rattle.layout.specs.Rows.{rowCount, mostFields}
 use Rattle.layout.specs.Packed.{mostKind}
 use Rattle.rules.specs.Rules.{byteLimit}
-use Rattle.rules.proofs.TestLaws.{and-left, and-right}
+use Rattle.rules.proofs.TestLaws.{both, and-left, and-right, and-false}
 use Rattle.field.specs.Streaming.{cap}
 use Rattle.line.specs.Machine.{HotFit, mostBars, withoutData}
-use Rattle.sef.specs.Ranges.{withinTo, lineRanged, hotRanged, mostRule, refusalRanged, tallyRanged, rangedOf, TallyFit}
+use Rattle.sef.specs.Ranges.{withinTo, lineRanged, hotRanged, isRule, refusalRanged, tallyRanged, rangedOf, TallyFit}
 use Rattle.sef.specs.Ranges.{Held}
 use Rattle.line.specs.declared.hot.Hot.{Hot}
 use Rattle.sef.specs.declared.state.State.{State}
@@ -134,10 +134,24 @@ pub open-ranged : (bytes : ℕ) → bytes ≤ byteLimit → refusalRanged 0 0 by
 unfolding refusalRanged
 open-ranged bytes l = rw (le-leb bytes byteLimit l)
 
-pub broken-ranged : (rule field bytes : ℕ) → 1 ≤ rule → rule ≤ mostRule → field ≤ mostBars → refusalRanged rule field bytes ≡ true
+-- nothing refused, or a rule's number
+abbrev pub OfRule : ℕ → Type 0
+OfRule n = (eqb n 0 || isRule n) ≡ true
+
+pub of-rule : (n : ℕ) → isRule n ≡ true → OfRule n
+of-rule n e = rw e (or-true (eqb n 0))
+
+-- none of them is 17, 18 or 19
+pub not-of-call : {X : Type 0} (n : ℕ) → OfRule n → 17 ≤ n → n ≤ 19 → X
+not-of-call n e l m =
+    both e (rw (ne-eqb n 0 (λ z. omega arith), lt-leb n 16 (omega arith), ne-eqb n 24 (λ z. omega arith), and-false (leb 1 n)))
+
+pub rule-some : (rule : ℕ) → isRule rule ≡ true → rule ≡ 0 → ⊥
+rule-some rule e z = both e (rw z)
+
+pub broken-ranged : (rule field bytes : ℕ) → isRule rule ≡ true → field ≤ mostBars → refusalRanged rule field bytes ≡ true
 unfolding refusalRanged
-broken-ranged rule field bytes one most named =
-    rw (ne-eqb rule 0 (λ z. omega arith), le-leb rule mostRule most, le-leb field mostBars named)
+broken-ranged rule field bytes is named = rw (ne-eqb rule 0 (rule-some rule is), is, le-leb field mostBars named)
 
 record Unbroken (field bytes : ℕ) : Type 0 where
   none : field ≡ 0
@@ -152,13 +166,14 @@ unbroken rule field bytes z e =
       limit = leb-true _ _ (and-right (eqb field 0) (leb bytes byteLimit) e′);
     }
 
-broken : (rule field bytes : ℕ) → (rule ≡ 0 → ⊥) → refusalRanged rule field bytes ≡ true → (rule ≤ mostRule) × (field ≤ mostBars)
+broken : (rule field bytes : ℕ) → (rule ≡ 0 → ⊥) → refusalRanged rule field bytes ≡ true
+    → (isRule rule ≡ true) × (field ≤ mostBars)
 unfolding refusalRanged
 broken rule field bytes z e =
-    let r = leb rule mostRule in
+    let r = isRule rule in
     let f = leb field mostBars in
     let e′ : (r && f) ≡ true = rw (ne-eqb rule 0 z) at e in
-    (leb-true _ _ (and-left r f e′), leb-true _ _ (and-right r f e′))
+    (and-left r f e′, leb-true _ _ (and-right r f e′))
 
 -- A state in range, in its parts.
 module _ (s : State) (e : rangedOf s ≡ true) where
@@ -182,7 +197,7 @@ module _ (s : State) (e : rangedOf s ≡ true) where
   unfolding rangedOf
   state-tally = tally-fit (s .tally) (s .hot .bytes) (and-right (hot && refusal) tally e)
 
-  pub kept-refusal : (s .rule ≡ 0 → ⊥) → (s .rule ≤ mostRule) × (s .field ≤ mostBars)
+  pub kept-refusal : (s .rule ≡ 0 → ⊥) → (isRule (s .rule) ≡ true) × (s .field ≤ mostBars)
   kept-refusal z = broken (s .rule) (s .field) (s .hot .bytes) z (and-right hot refusal first-two)
 
   module _ (z : s .rule ≡ 0) where

@@ -1,5 +1,6 @@
 -- The loop over a piece: what is still to be done, turn by turn; and what it comes to, which is within the ranges.
 use mathlib.Core.Path.{_≡_, _∙_, refl, sym, subst}
+use mathlib.Core.Bool.{true}
 use mathlib.Core.List.{List, [], _∷_}
 use Prim.Native.Nat.{ℕ, suc, _+_, _<_, _≤_}
 use native.Mathlib.Omega.{arith}
@@ -9,7 +10,7 @@ use lib.Seq.{drop-cons, drop-length}
 use Rattle.rules.specs.Rules.{byteLimit}
 use Rattle.line.specs.Machine.{HotFit, mostBars, stepOf}
 use Rattle.sef.specs.Calls.{countsWith, stampsWith, occurrencesWith, tallyOf, tallyWith, openOf, stoppedOf, onStep, runOf}
-use Rattle.sef.specs.Ranges.{mostRule, Held}
+use Rattle.sef.specs.Ranges.{isRule, Held}
 use Rattle.sef.specs.Promises.{AllBytes}
 use Rattle.line.specs.declared.hot.Hot.{Hot}
 use Rattle.line.specs.declared.step.Step.{Step}
@@ -25,7 +26,7 @@ module _ (h n : Hot) (t : Tally) (b : ℕ) (d : Held h t) where
   led s (goes {n = k} f e l) p =
       let q : k ≡ n = cc in
       subst (λ m. HotFit m × (m .bytes ≡ h .bytes + 1) × (h .bytes < byteLimit)) q (f, e, l)
-  led s (stops o m f) p = absurd (let z : _≡_ {A = ℕ} 0 1 = cc in omega arith)
+  led s (stops is named) p = absurd (let z : _≡_ {A = ℕ} 0 1 = cc in omega arith)
 
   held-next : b < 256 → stepOf h (t .stamps) (t .occurrences) b ≡ Next n → Held n (tallyWith h (n .lines) b t)
   held-next byte e =
@@ -75,7 +76,7 @@ going-next {p} {h₀} {t₀} {h} {cs} {ss} {os} {i} g l byte n e cs′ ss′ os�
 -- What a piece comes to: nothing is refused so far, or a byte has broken a rule; all within the ranges.
 pub data Comes : Checked → Type 0 where
   opens : (h : Hot) (t : Tally) → Held h t → Comes (openOf h t)
-  stops-by : (h : Hot) (t : Tally) (rule field : ℕ) → Held h t → 1 ≤ rule → rule ≤ mostRule → field ≤ mostBars
+  stops-by : (h : Hot) (t : Tally) (rule field : ℕ) → Held h t → isRule rule ≡ true → field ≤ mostBars
       → Comes (stoppedOf h t rule field)
 
 pub run-comes : (piece : List ℕ) → AllBytes piece → (h : Hot) (t : Tally) → Held h t → Comes (runOf h t piece)
@@ -89,4 +90,4 @@ run-comes (b ∷ piece) all h t d =
         → ((n : Hot) → stepOf h (t .stamps) (t .occurrences) b ≡ Next n → Comes (runOf n (tallyWith h (n .lines) b t) piece))
         → Comes (onStep s (λ n. runOf n (tallyWith h (n .lines) b t) piece) (stoppedOf h t))
     go (Next n) e l ih = ih n e
-    go (Broken r f) e (stops one most named) ih = stops-by h t r f d one most named
+    go (Broken r f) e (stops is named) ih = stops-by h t r f d is named

@@ -1,12 +1,11 @@
--- A step keeps within the ranges: from a hot part in range it goes on to one in range, or breaks a rule from 1 to 16 at a field
--- of the line.
+-- A step keeps within the ranges: from a hot part in range it goes on to one in range, or breaks a rule at a field of
+-- the line.
 use mathlib.Core.Path.{_≡_, refl}
-use mathlib.Core.Bool.{Bool, true, false, _&&_}
+use mathlib.Core.Bool.{Bool, true, false}
 use mathlib.Core.List.{List}
 use Prim.Native.Nat.{ℕ, _+_, _<_, _≤_}
 use native.Mathlib.Omega.{arith}
 use lib.Dec.{T, eqb, leb, ltb, leb→le, lit≤}
-use lib.Ieee.Fits.{and-l, and-r}
 use borrow.Author.Tests.{eqb-true, eqb-false, leb-false, ltb-false}
 use Rattle.layout.specs.Pick.{pick}
 use Rattle.layout.specs.Rows.{rowCount, fields, mostFields, isClosing}
@@ -14,12 +13,12 @@ use Rattle.layout.specs.Kinds.{kind}
 use Rattle.layout.specs.Packed.{kindNumber, mostKind}
 use Rattle.rules.specs.Rules.{byteLimit}
 use Rattle.rules.proofs.TestLaws.{pick-le}
-use Rattle.field.specs.Streaming.{FieldFit, cap, emptyFault, contentFault, numberFault, textFault, faultOf}
+use Rattle.field.specs.Streaming.{FieldFit, cap, emptyFault, digitsFault, contentFault, numberFault, textFault, faultOf}
 use Rattle.field.specs.declared.bytes.Field.{Field}
 use Rattle.line.specs.Machine.{HotFit, judgedWith, mostBars, withoutData, grownOf, movedOf, endedOf, sinceOf, codeBarOf, saysOf}
 use Rattle.line.specs.Machine.{fieldBarOf, barOf}
 use Rattle.line.specs.Machine.{controlOf, inFieldOf, pastOf, startOf, stepOf}
-use Rattle.sef.specs.Ranges.{mostRule}
+use Rattle.sef.specs.Ranges.{isRule}
 use Rattle.line.specs.declared.hot.Hot.{Hot}
 use Rattle.line.specs.declared.step.Step.{Step}
 use Rattle.line.specs.declared.step.Step.the-variants.{Next, Broken}
@@ -27,50 +26,46 @@ use Rattle.layout.proofs.KindLaws.{kind-most}
 use Rattle.layout.proofs.RowLaws.{fields-most}
 use Rattle.field.proofs.LengthLaws.{one-longer, fit-after}
 use Rattle.line.proofs.RowLaws.{word-row-le}
+use Rattle.sef.proofs.RangeLaws.{OfRule}
 
 -- what a bar finds is 0 or a rule
-abbrev Rule : ℕ → Type 0
-Rule n = n ≤ mostRule
+pick-rule : (t : Bool) (a b : ℕ) → OfRule a → OfRule b → OfRule (pick t a b)
+pick-rule true a b p q = p
+pick-rule false a b p q = q
 
 module _ (class size : ℕ) (f : Field) (due : ℕ) where
-  empty-rule : Rule (emptyFault class)
+  empty-rule : OfRule (emptyFault class)
   unfolding emptyFault
-  empty-rule = search (pick-le, lit≤) depth 8
+  empty-rule = search pick-rule depth 8
 
-  content-rule : Rule (contentFault class (f .value) due)
+  digits-rule : OfRule (digitsFault class (f .value))
+  unfolding digitsFault
+  digits-rule = search pick-rule depth 8
+
+  content-rule : OfRule (contentFault class (f .value) due)
   unfolding contentFault
-  content-rule = search (pick-le, lit≤) depth 8
+  content-rule = search (pick-rule, digits-rule) depth 8
 
-  number-rule : Rule (numberFault class size f due)
+  number-rule : OfRule (numberFault class size f due)
   unfolding numberFault
-  number-rule = search (pick-le, lit≤, empty-rule, content-rule) depth 8
+  number-rule = search (pick-rule, empty-rule, content-rule) depth 8
 
-  text-rule : Rule (textFault class size f)
+  text-rule : OfRule (textFault class size f)
   unfolding textFault
-  text-rule = search (pick-le, lit≤) depth 8
+  text-rule = search pick-rule depth 8
 
-fault-rule : (kind : ℕ) (f : Field) (due : ℕ) → Rule (faultOf kind f due)
+fault-rule : (kind : ℕ) (f : Field) (due : ℕ) → OfRule (faultOf kind f due)
 unfolding faultOf
-fault-rule kind f due = search (pick-le, lit≤, text-rule, number-rule) depth 8
+fault-rule kind f due = search (pick-rule, text-rule, number-rule) depth 8
 
 -- where a step leads
 pub data Leads (h : Hot) : Step → Type 0 where
   goes : {n : Hot} → HotFit n → n .bytes ≡ h .bytes + 1 → h .bytes < byteLimit → Leads h (Next n)
-  stops : {rule field : ℕ} → 1 ≤ rule → rule ≤ mostRule → field ≤ mostBars → Leads h (Broken rule field)
+  stops : {rule field : ℕ} → isRule rule ≡ true → field ≤ mostBars → Leads h (Broken rule field)
 
 pick-leads : (h : Hot) (t : Bool) (a b : Step) → Leads h a → Leads h b → Leads h (pick t a b)
 pick-leads h true a b p q = p
 pick-leads h false a b p q = q
-
--- the number of a rule
-abbrev known : ℕ → Bool
-known rule = leb 1 rule && leb rule mostRule
-
-known-least : (rule : ℕ) → T (known rule) → 1 ≤ rule
-known-least rule t = leb→le 1 rule (and-l (leb 1 rule) (leb rule mostRule) t)
-
-known-most : (rule : ℕ) → T (known rule) → rule ≤ mostRule
-known-most rule t = leb→le rule mostRule (and-r (leb 1 rule) (leb rule mostRule) t)
 
 -- one more byte is judged
 pub judged-fit : (h : Hot) → HotFit h → h .bytes ≤ byteLimit
@@ -93,13 +88,13 @@ judged-fit h f limit g length wrong value =
 
 module _ (h : Hot) (f : HotFit h) (small : h .bytes < byteLimit) where
   -- at the field at hand, and at no field or field 1
-  stops-here : (rule : ℕ) → T (known rule) → Leads h (Broken rule (h .bars))
-  stops-here rule k = stops {rule = rule} {field = h .bars} (known-least rule k) (known-most rule k) (f .bars)
+  stops-here : (rule : ℕ) → isRule rule ≡ true → Leads h (Broken rule (h .bars))
+  stops-here rule k = stops {rule = rule} {field = h .bars} k (f .bars)
 
-  stops-at : (rule field : ℕ) → T (known rule) → T (leb field 1) → Leads h (Broken rule field)
+  stops-at : (rule field : ℕ) → isRule rule ≡ true → T (leb field 1) → Leads h (Broken rule field)
   stops-at rule field k t =
       let le = leb→le field 1 t in
-      stops {rule = rule} {field = field} (known-least rule k) (known-most rule k) (omega arith)
+      stops {rule = rule} {field = field} k (omega arith)
 
   moved-leads : h .bars ≤ mostFields → (r fields kind says : ℕ) → r ≤ rowCount → fields ≤ mostFields → kind ≤ mostKind
       → says ≤ withoutData → Leads h (Next (movedOf h r fields kind says))
@@ -163,15 +158,15 @@ module _ (h : Hot) (f : HotFit h) (small : h .bytes < byteLimit) where
         let next = moved-leads room r (fields r) (kindNumber (kind r 2)) 0 le (fields-most r le) (kind-most r 2) (omega arith) in
         search (pick-leads, stops-at, next) depth 8
 
-    field-leads : (n : ℕ) → n ≤ mostRule → Leads h (fieldBarOf h n)
+    field-leads : (n : ℕ) → OfRule n → Leads h (fieldBarOf h n)
     unfolding fieldBarOf
-    field-leads n most = go (eqb n 0) refl
+    field-leads n found = go (eqb n 0) refl
       where
         go : (t : Bool) → eqb n 0 ≡ t
             → Leads h (pick t (Next (movedOf h (h .row) (h .fields) (kindNumber (kind (h .row) (h .bars + 1))) (saysOf h)))
             (Broken n (h .bars)))
         go true e = moved-leads room (h .row) (h .fields) _ _ (f .row) (f .fields) (kind-most (h .row) (h .bars + 1)) says-le
-        go false e = let z = eqb-false n 0 e in stops {rule = n} {field = h .bars} (omega arith) most (f .bars)
+        go false e = stops {rule = n} {field = h .bars} (rw e at found) (f .bars)
 
     bar-leads : (ss os : List ℕ) → Leads h (barOf h ss os)
     unfolding barOf
@@ -212,5 +207,5 @@ step-leads h f ss os b byte = go (leb byteLimit (h .bytes)) refl
     go : (t : Bool) → leb byteLimit (h .bytes) ≡ t
         → Leads h (pick t (Broken 16 0)
         (pick (eqb (h .bars) 0) (startOf h b) (pick (ltb (h .fields) (h .bars)) (pastOf h b) (inFieldOf h ss os b))))
-    go true e = stops {rule = 16} {field = 0} (omega arith) (omega arith) (omega arith)
+    go true e = stops {rule = 16} {field = 0} refl (omega arith)
     go false e = line-leads h f (leb-false _ _ e) ss os b byte

@@ -16,7 +16,7 @@ use Rattle.rules.specs.Totals.{closingsState, statedBy, linesOf, lastLine, rows
 use Rattle.line.specs.Machine.{mostBars}
 use Rattle.sef.specs.Answers.{numbers, numbersOf, said, finallySaid, reportSaid}
 use Rattle.sef.specs.Calls.{fresh, checkOf}
-use Rattle.sef.specs.Ranges.{rangedOf}
+use Rattle.sef.specs.Ranges.{isRule, rangedOf}
 use Rattle.sef.specs.Promises.{AllBytes, Reached, Given, Checks, Finishes, Reports}
 use Rattle.sef.specs.declared.state.State.{State}
 use Rattle.sef.specs.declared.answers.Numbers.{Numbers}
@@ -30,10 +30,10 @@ use Rattle.sef.specs.declared.answers.ReportAnswer.the-variants as Repor
 -- The tender.
 
 -- 1. "Every file gets an answer, also an empty or damaged one."
--- Each list of bytes can be handed over, and a finish then says accepted, or refused by a rule from 1 to 16.
+-- Each list of bytes can be handed over, and a finish then says accepted, or refused by a rule: 1 to 16, or 24.
 pub data Answered : Verdict → Type 0 where
   isAccepted : {l n : ℕ} → Answered (accepted l n)
-  isRefused : {number line field l n : ℕ} → 1 ≤ number → number ≤ 16 → Answered (refused number line field l n)
+  isRefused : {number line field l n : ℕ} → isRule number ≡ true → Answered (refused number line field l n)
 
 abbrev pub EveryFileAnswered : Type 0
 EveryFileAnswered =
@@ -42,12 +42,12 @@ EveryFileAnswered =
     → Answered (finallySaid (r .answer)))
 
 -- "A refusal has one number of a fixed table, with line and field."
--- At every state each call's answer is in the table: nothing refused; a rule from 1 to 16 with the line, lines ended plus 1,
+-- At every state each call's answer is in the table: nothing refused; a rule, 1 to 16 or 24, with the line, lines ended plus 1,
 -- and a field; or 17 to 19 alone.
 pub data InTable : Verdict → Type 0 where
   isOpen : (lines bytes : ℕ) → InTable (stillOpen lines bytes)
   accepts : (lines bytes : ℕ) → InTable (accepted lines bytes)
-  byRule : (number field lines bytes : ℕ) → 1 ≤ number → number ≤ 16 → field ≤ mostBars
+  byRule : (number field lines bytes : ℕ) → isRule number ≡ true → field ≤ mostBars
       → InTable (refused number (lines + 1) field lines bytes)
   ofCall : (number : ℕ) → 17 ≤ number → number ≤ 19 → InTable (refused number 0 0 0 0)
 
@@ -166,16 +166,17 @@ GivenInRange = (file : List ℕ) (s : State) → Given file s → rangedOf s ≡
 abbrev pub ThreeChangeNothing : Type 0
 ThreeChangeNothing =
     ((s : State) (piece : List ℕ) (r : Checked) → AllBytes piece → Checks s piece r
-    → (n : ℕ) → numbersOf (said (r .answer)) .refusal ≡ n → 17 ≤ n
+    → (n : ℕ) → numbersOf (said (r .answer)) .refusal ≡ n → 17 ≤ n → n ≤ 19
     → (numbersOf (said (r .answer)) ≡ numbers n 0 0 0 0) × (r .state ≡ s))
     × ((s : State) (r : Finished) → Finishes s r
-    → (n : ℕ) → numbersOf (finallySaid (r .answer)) .refusal ≡ n → 17 ≤ n
+    → (n : ℕ) → numbersOf (finallySaid (r .answer)) .refusal ≡ n → 17 ≤ n → n ≤ 19
     → (numbersOf (finallySaid (r .answer)) ≡ numbers n 0 0 0 0) × (r .state ≡ s))
     × ((s : State) (before : List ℕ) (r : ReportAnswer) (after : List ℕ) → Reports s before r after
-    → (n : ℕ) → reportSaid r .refusal ≡ n → 17 ≤ n
+    → (n : ℕ) → reportSaid r .refusal ≡ n → 17 ≤ n → n ≤ 19
     → (reportSaid r ≡ numbers n 0 0 0 0) × (after ≡ before))
 
--- "A refusal from 1 to 16 is the answer to every later piece until finish has been asked, and to that finish;"
+-- "A refusal from 1 to 16 is the answer to every later piece until finish has been asked, and to that finish;" 02: "later
+-- numbers given at a bar name its field and hold as 1 to 16 do".
 -- At every state: a piece after a refusal gives back the same answer and the same state, and so does the one after it.
 abbrev pub Stays : Checked → Numbers → Type 0
 Stays r n =

@@ -1,5 +1,5 @@
 -- Every stored number within its range (docs/STATE.md): what refusal 19 asks.
-use mathlib.Core.Bool.{Bool, true, _&&_}
+use mathlib.Core.Bool.{Bool, true, _&&_, _||_}
 use mathlib.Core.List.{List}
 use Prim.Native.Nat.{ℕ, zero, suc, _+_, _≤_, _<_}
 use lib.Dec.{eqb, leb}
@@ -31,14 +31,14 @@ hotRanged h =
     leb (h .bytes) (byteLimit + 1) && leb (h .lines) (h .bytes) && leb (h .last) rowCount && leb (h .since) (h .bytes)
     && leb (h .says) withoutData && lineRanged h
 
--- the last of the rules that a byte can break
-abbrev pub mostRule : ℕ
-mostRule = 16
+-- the numbers of the rules that the bytes or their end can break: 01's 1 to 16, and 02's 24
+abbrev pub isRule : ℕ → Bool
+isRule n = leb 1 n && leb n 16 || eqb n 24
 
 -- while no rule is broken no field is named, and the bytes are within the limit
 unfoldable pub refusalRanged : ℕ → ℕ → ℕ → Bool
 refusalRanged rule field bytes =
-    pick (eqb rule 0) (eqb field 0 && leb bytes byteLimit) (leb rule mostRule && leb field mostBars)
+    pick (eqb rule 0) (eqb field 0 && leb bytes byteLimit) (isRule rule && leb field mostBars)
 
 -- what is kept for each row
 unfoldable pub tallyRanged : Tally → ℕ → Bool

@@ -16,7 +16,7 @@ pub struct Numbers {
 pub enum Answer {
     // nothing is refused so far: lines ended, bytes judged
     Open(u64, u64),
-    // 1 to 16: a rule is broken
+    // 1 to 16, and 24: a rule is broken
     Refused(Numbers),
     // 17: a piece after finish
     Late,
@@ -28,7 +28,7 @@ pub enum Answer {
 pub enum FinalAnswer {
     // lines ended, bytes judged
     Accepted(u64, u64),
-    // 1 to 16: a rule is broken
+    // 1 to 16, and 24: a rule is broken
     Refused(Numbers),
     // 17: a finish after finish
     Late,

@@ -1,10 +1,11 @@
 // Every stored number within its range (docs/STATE.md): what refusal 19 asks.
 ghost use mathlib.Core.Path.{_≡_};
 ghost use Rattle.layout.specs.Rows.{rowCount};
-ghost use Rattle.sef.specs.Ranges.{withinTo, lineRanged, hotRanged, refusalRanged, tallyRanged, rangedOf};
+ghost use Rattle.sef.specs.Ranges.{withinTo, lineRanged, hotRanged, isRule, refusalRanged, tallyRanged, rangedOf};
 use crate::state::State;
 use crate::state::Tally;
 use field::bytes::CAP;
+use field::fault::WRONG_CHECK_DIGIT;
 use layout::kinds::KIND_MOST;
 use layout::rows::FIELDS_MOST;
 use layout::rows::ROWS;
@@ -20,9 +21,6 @@ const WRONG_MOST: u64 = 1;
 
 // A line has a bar before each field, and the last one.
 const BARS_MOST: u64 = FIELDS_MOST + 1;
-
-// The last of the rules that a byte can break.
-const RULE_MOST: u64 = TOO_LONG;
 
 // Every entry is at most m.
 fn within(array: &[u64; ROWS], m: u64) -> bool
@@ -63,6 +61,13 @@ fn hot_ranged(h: Hot) -> bool
         & line_ranged(h)
 }
 
+// The numbers of the rules that the bytes or their end can break.
+fn is_rule(n: u64) -> bool
+    ensures { λ t. ⌜ t ≡ isRule n ⌝ }
+{
+    (1 <= n) & (n <= TOO_LONG) | (n == WRONG_CHECK_DIGIT)
+}
+
 // The refusal that is kept: while no rule is broken no field is named, and the bytes are within the limit.
 fn refusal_ranged(rule: u64, field: u64, bytes: u64) -> bool
     ensures { λ t. ⌜ t ≡ refusalRanged rule field bytes ⌝ }
@@ -70,7 +75,7 @@ fn refusal_ranged(rule: u64, field: u64, bytes: u64) -> bool
     if rule == 0 {
         return (field == 0) & (bytes <= BYTE_LIMIT);
     }
-    (rule <= RULE_MOST) & (field <= BARS_MOST)
+    is_rule(rule) & (field <= BARS_MOST)
 }
 
 // What is kept for each row.

@@ -36,6 +36,9 @@ returns-7 : tie.Need-returns-7
 unfolding contentFault
 returns-7 c = search called depth 12
 
+digits-fault-requires : tie.Need-digits-fault-requires
+digits-fault-requires c κs = search needs
+
 returns-8 : tie.Need-returns-8
 unfolding contentFault
 returns-8 c = search called depth 12
@@ -43,4 +46,14 @@ returns-8 c = search called depth 12
 pub content-fault-spec : {M : Type 1} → statement M
 content-fault-spec =
     tie.close
-    (tie.spec returns is-date-requires returns-2 returns-3 returns-4 returns-5 returns-6 returns-7 returns-8)
+    (tie.spec
+    returns
+    is-date-requires
+    returns-2
+    returns-3
+    returns-4
+    returns-5
+    returns-6
+    returns-7
+    digits-fault-requires
+    returns-8)
