@@ -1,5 +1,6 @@
-//! Another way to judge a CNPJ or CPF, for tests to hold the checker's own to.
-//! No check digit is worked out: the number is summed up as it is written.
+//! Other ways to what the checker works out, for tests to hold its own to. Of a
+//! CNPJ or CPF no check digit is worked out: the number is summed up as it is
+//! written. The wrong byte of a field is found by counting its digits.
 
 use crate::CheckedNumber::{self, Cnpj, Cpf};
 
@@ -25,4 +26,16 @@ fn ends_rightly(checked: CheckedNumber, digits: &[u8]) -> bool {
     let from_right = digits.iter().rev().enumerate();
     let sum: usize = from_right.map(|(at, digit)| weight(at) * usize::from(digit - b'0')).sum();
     sum % 11 == 0 || (sum % 11 == 1 && digits.ends_with(b"0"))
+}
+
+/// Nothing is tried: the digits at hand are counted up to where they must stop.
+pub fn wrong_byte_in_another_way(text: &[u8], decimals: Option<usize>) -> usize {
+    let digits = |from: usize| text[from..].iter().take_while(|byte| byte.is_ascii_digit()).count();
+    let whole = digits(0);
+    match decimals {
+        Some(decimals) if whole > 0 && text.get(whole) == Some(&b',') => {
+            whole + 1 + digits(whole + 1).min(decimals) + 1
+        }
+        _ => whole + 1,
+    }
 }

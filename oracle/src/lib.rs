@@ -22,6 +22,7 @@ mod shape;
 mod sheets;
 mod spot;
 mod verdict;
+mod wrong_byte;
 
 pub use check_digits::CheckedNumber;
 pub use checker::{Answer, Checker};
