@@ -7,13 +7,13 @@ use crate::verdict::{finish, judgement, verdict, Final, Verdict};
 pub enum Answer {
     Open { lines: u64, bytes: u64 },
     Accepted { lines: u64, bytes: u64 },
-    Refused { number: u8, line: u64, field: u64, lines: u64, bytes: u64 },
+    Refused { number: u8, line: u64, field: u64, position: u64, lines: u64, bytes: u64 },
 }
 
 impl Answer {
     /// 17 and 18 name no place and no numbers.
     pub const fn misuse(number: u8) -> Answer {
-        Answer::Refused { number, line: 0, field: 0, lines: 0, bytes: 0 }
+        Answer::Refused { number, line: 0, field: 0, position: 0, lines: 0, bytes: 0 }
     }
 
     /// Lines ended and bytes judged.
@@ -30,8 +30,8 @@ impl From<Verdict> for Answer {
     fn from(verdict: Verdict) -> Answer {
         match verdict {
             Verdict::Open { lines, bytes } => Answer::Open { lines, bytes },
-            Verdict::Refused { number, line, field, lines, bytes } => {
-                Answer::Refused { number, line, field, lines, bytes }
+            Verdict::Refused { number, line, field, position, lines, bytes } => {
+                Answer::Refused { number, line, field, position, lines, bytes }
             }
         }
     }
@@ -41,8 +41,8 @@ impl From<Final> for Answer {
     fn from(answer: Final) -> Answer {
         match answer {
             Final::Accepted { lines, bytes } => Answer::Accepted { lines, bytes },
-            Final::Refused { number, line, field, lines, bytes } => {
-                Answer::Refused { number, line, field, lines, bytes }
+            Final::Refused { number, line, field, position, lines, bytes } => {
+                Answer::Refused { number, line, field, position, lines, bytes }
             }
         }
     }

@@ -5,6 +5,7 @@ use crate::count::{expected_count, has_value};
 use crate::date::is_date;
 use crate::kinds::{kind, Kind, Role};
 use crate::spot::Spot;
+use crate::wrong_byte::wrong_byte;
 use crate::BAR;
 
 /// 10: wrong characters or decimals in an N field.
@@ -12,6 +13,12 @@ pub fn wrong_characters(spot: &Spot) -> Option<usize> {
     let kind = ended_kind(spot)?;
     let breaks = kind.numeric && !spot.text.is_empty() && !is_number(spot.text, kind.decimals);
     breaks.then_some(spot.field)
+}
+
+/// Which byte of the field it is that broke 10.
+pub fn first_wrong_byte(spot: &Spot) -> usize {
+    let decimals = ended_kind(spot).and_then(|kind| kind.decimals);
+    wrong_byte(spot.text, decimals)
 }
 
 /// 11: wrong size.

@@ -1,8 +1,9 @@
 //! All rules a byte can break, in the order of their numbers. Of those that
-//! speak of the bar after a field, request h puts 24 after 12.
+//! speak of the bar after a field, request h puts 24 after 12. Request e has 2
+//! and 10 say which byte of the field it is.
 
 use crate::content::{
-    untrue_count, wrong_characters, wrong_check_digit, wrong_size, wrong_value,
+    first_wrong_byte, untrue_count, wrong_characters, wrong_check_digit, wrong_size, wrong_value,
 };
 use crate::place::{against_opening, one_too_many, out_of_place, unknown_code};
 use crate::shape::{bad_line_end, control_byte, field_too_many, fields_missing, no_first_bar};
@@ -27,11 +28,30 @@ const RULES: [(u8, Rule); 14] = [
     (24, wrong_check_digit),
 ];
 
-/// The lowest rule this byte breaks, and the field to name. After 9999's LF
-/// only 15 is asked.
-pub fn broken_rule(spot: &Spot) -> Option<(u8, usize)> {
+/// A rule that a byte breaks, and the place it names.
+pub struct Broken {
+    pub number: u8,
+    pub field: usize,
+    /// The byte of the field, from 1; 0 for all but 2 and 10.
+    pub position: usize,
+}
+
+/// The lowest rule this byte breaks. After 9999's LF only 15 is asked.
+pub fn broken_rule(spot: &Spot) -> Option<Broken> {
     if spot.before.file_is_whole() {
-        return Some((15, 0));
+        return Some(Broken { number: 15, field: 0, position: 0 });
     }
-    RULES.iter().find_map(|(number, rule)| rule(spot).map(|field| (*number, field)))
+    RULES.iter().find_map(|&(number, rule)| {
+        let field = rule(spot)?;
+        Some(Broken { number, field, position: position(number, spot) })
+    })
+}
+
+fn position(number: u8, spot: &Spot) -> usize {
+    match number {
+        // the control byte itself, whatever stands before it in the field
+        2 => spot.text.len() + 1,
+        10 => first_wrong_byte(spot),
+        _ => 0,
+    }
 }

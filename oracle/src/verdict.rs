@@ -1,7 +1,7 @@
 //! The verdict of the bytes received so far, and the final one.
 
 use crate::lines::Lines;
-use crate::rules::broken_rule;
+use crate::rules::{broken_rule, Broken};
 use crate::spot::LineAtHand;
 use crate::LF;
 
@@ -11,13 +11,13 @@ pub const BYTE_LIMIT: u64 = 4_294_967_296;
 #[derive(Clone, Copy, Debug, PartialEq, Eq)]
 pub enum Verdict {
     Open { lines: u64, bytes: u64 },
-    Refused { number: u8, line: u64, field: u64, lines: u64, bytes: u64 },
+    Refused { number: u8, line: u64, field: u64, position: u64, lines: u64, bytes: u64 },
 }
 
 #[derive(Clone, Copy, Debug, PartialEq, Eq)]
 pub enum Final {
     Accepted { lines: u64, bytes: u64 },
-    Refused { number: u8, line: u64, field: u64, lines: u64, bytes: u64 },
+    Refused { number: u8, line: u64, field: u64, position: u64, lines: u64, bytes: u64 },
 }
 
 pub fn verdict(bytes: &[u8]) -> Verdict {
@@ -50,29 +50,23 @@ pub fn judgement(bytes: &[u8]) -> Judgement {
     let judged = judge(bytes, BYTE_LIMIT);
     let verdict = judged.verdict(bytes.len());
     let at_finish = match verdict {
-        Verdict::Refused { number, line, field, lines, bytes } => {
-            Final::Refused { number, line, field, lines, bytes }
+        Verdict::Refused { number, line, field, position, lines, bytes } => {
+            Final::Refused { number, line, field, position, lines, bytes }
         }
         Verdict::Open { lines, bytes } if judged.lines.file_is_whole() => {
             Final::Accepted { lines, bytes }
         }
         Verdict::Open { lines, bytes } => {
-            Final::Refused { number: 14, line: lines + 1, field: 0, lines, bytes }
+            Final::Refused { number: 14, line: lines + 1, field: 0, position: 0, lines, bytes }
         }
     };
     Judgement { verdict, at_finish, counts: judged.lines.per_row() }
 }
 
-/// The first byte that breaks a rule, counted from 0.
-struct Broken {
-    byte: usize,
-    number: u8,
-    field: usize,
-}
-
 struct Judged<'a> {
     lines: Lines<'a>,
-    broken: Option<Broken>,
+    /// The first byte that breaks a rule, counted from 0, and that rule.
+    broken: Option<(usize, Broken)>,
 }
 
 impl Judged<'_> {
@@ -80,12 +74,13 @@ impl Judged<'_> {
         let lines = self.lines.count() as u64;
         match &self.broken {
             None => Verdict::Open { lines, bytes: length as u64 },
-            Some(broken) => Verdict::Refused {
+            Some((byte, broken)) => Verdict::Refused {
                 number: broken.number,
                 line: lines + 1,
                 field: broken.field as u64,
+                position: broken.position as u64,
                 lines,
-                bytes: broken.byte as u64 + 1,
+                bytes: *byte as u64 + 1,
             },
         }
     }
@@ -96,7 +91,7 @@ fn judge(bytes: &[u8], limit: u64) -> Judged<'_> {
     let within = bytes.len().min(usize::try_from(limit - 1).unwrap_or(usize::MAX));
     let mut judged = judge_lines(&bytes[..within]);
     if judged.broken.is_none() && bytes.len() > within {
-        judged.broken = Some(Broken { byte: within, number: 16, field: 0 });
+        judged.broken = Some((within, Broken { number: 16, field: 0, position: 0 }));
     }
     judged
 }
@@ -107,13 +102,8 @@ fn judge_lines(bytes: &[u8]) -> Judged<'_> {
     // before the first broken rule an LF only ever ends a line, so cut there
     for bytes in bytes.split_inclusive(|&byte| byte == LF) {
         let line = LineAtHand::cut(bytes);
-        let broken = first_broken(&line, &lines).map(|(offset, number, field)| Broken {
-            byte: start + offset,
-            number,
-            field,
-        });
-        if broken.is_some() {
-            return Judged { lines, broken };
+        if let Some((offset, broken)) = first_broken(&line, &lines) {
+            return Judged { lines, broken: Some((start + offset, broken)) };
         }
         if bytes.ends_with(&[LF]) {
             lines.end_line(line.row.expect("a line that ended has a row"), bytes);
@@ -123,9 +113,9 @@ fn judge_lines(bytes: &[u8]) -> Judged<'_> {
     Judged { lines, broken: None }
 }
 
-fn first_broken(line: &LineAtHand, before: &Lines) -> Option<(usize, u8, usize)> {
+fn first_broken(line: &LineAtHand, before: &Lines) -> Option<(usize, Broken)> {
     (0..line.bytes.len()).find_map(|offset| {
-        let (number, field) = broken_rule(&line.spot(offset, before))?;
-        Some((offset, number, field))
+        let broken = broken_rule(&line.spot(offset, before))?;
+        Some((offset, broken))
     })
 }

@@ -28,7 +28,7 @@ fn opening_against_content() {
 fn shape_of_line_2() {
     refused(&base_with(2, "|0001|\r\n"), 7, 2, 2);
     refused(&base_with(2, "|0001|1||\r\n"), 8, 2, 3);
-    refused(&base_with(2, "|0001|1\r\n"), 2, 2, 2);
+    refused_at(&base_with(2, "|0001|1\r\n"), 2, 2, 2, 2);
     refused(&base_with(2, "|0001|1|\n"), 9, 2, 0);
 }
 

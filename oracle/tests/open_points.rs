@@ -28,17 +28,18 @@ fn first_bytes_of_a_line() {
     }
     last_byte_refused(b"|\r", 7, 1, 1);
     last_byte_refused(b"|\n", 7, 1, 1);
-    last_byte_refused(b"|\x09", 2, 1, 1);
-    last_byte_refused(b"|0\r", 2, 1, 1);
+    last_byte_refused_at(b"|\x09", 2, 1, 1, 1);
+    last_byte_refused_at(b"|0\r", 2, 1, 1, 2);
     last_byte_refused(b"||", 3, 1, 1);
 }
 
 #[test]
 fn bytes_in_a_field() {
     for byte in 0..=31 {
-        last_byte_refused(&second_line(&[&b"|0001|1"[..], &[byte]].concat()), 2, 2, 2);
-        let right_after_bar = if byte == 10 || byte == 13 { 7 } else { 2 };
-        last_byte_refused(&second_line(&[&b"|0001|"[..], &[byte]].concat()), right_after_bar, 2, 2);
+        last_byte_refused_at(&second_line(&[&b"|0001|1"[..], &[byte]].concat()), 2, 2, 2, 2);
+        let (number, position) = if byte == 10 || byte == 13 { (7, 0) } else { (2, 1) };
+        let right_after_bar = second_line(&[&b"|0001|"[..], &[byte]].concat());
+        last_byte_refused_at(&right_after_bar, number, 2, 2, position);
     }
     for byte in (32..=255).filter(|&byte| byte != 124) {
         accepted(&base_field(1, 5, &[byte]), 6);
@@ -91,7 +92,7 @@ fn field_2_of_openings() {
         refused(&base_field(2, 2, value.as_bytes()), number, 2, 2);
         refused(&base_field(4, 2, value.as_bytes()), number, 4, 2);
         let e001 = [file(&BASE[..3]), format!("|E001|{value}|").into_bytes()].concat();
-        last_byte_refused(&e001, number, 4, 2);
+        last_byte_refused_at(&e001, number, 4, 2, u64::from(number == 10));
     }
     refused(&base_field(4, 2, b"0"), 5, 5, 1);
 }
@@ -198,8 +199,52 @@ fn consumers_have_the_cpf_first() {
 #[test]
 fn control_byte_in_a_text_too_long() {
     let start = [b"|0000|LFPD|||".to_vec(), vec![b'n'; 400]].concat();
-    last_byte_refused(&[&start[..], &[9]].concat(), 2, 1, 5);
+    last_byte_refused_at(&[&start[..], &[9]].concat(), 2, 1, 5, 401);
     last_byte_refused(&[&start[..], b"|"].concat(), 11, 1, 5);
+}
+
+/// It is the place in the field, whatever the field and what stands before it.
+#[test]
+fn positions_of_control_bytes() {
+    for (line, position) in [
+        (&b"|0001\x00"[..], 5),
+        (b"|xx\x1f", 3),
+        (b"|0001|\x00", 1),
+        (b"|0001|1,x\x1f", 4),
+        (b"|0001|1,x\n", 4),
+    ] {
+        let field = line.iter().filter(|&&byte| byte == 124).count() as u64;
+        last_byte_refused_at(&second_line(line), 2, 2, field, position);
+    }
+    last_byte_refused_at(b"|0000|LFPD|9x\r", 2, 1, 3, 3);
+    last_byte_refused_at(b"|0000|LFPD|||Loja \x02", 2, 1, 5, 6);
+    last_byte_refused_at(b"|0000|LFPD||||||||\x02", 2, 1, 10, 1);
+}
+
+/// Dates, counts, marks, CNPJ and CPF are digits to rule 10, and their size is
+/// set aside.
+#[test]
+fn positions_of_wrong_characters() {
+    for (line, field, value, position) in [
+        (1, 3, "9x012012", 2),
+        (1, 3, "290220129x", 10),
+        (1, 3, "2x", 2),
+        (1, 6, "11.222.333/0001-81", 3),
+        (1, 6, "1122233300018x", 14),
+        (1, 19, "x2998224725", 1),
+        (1, 18, "5299822472,", 11),
+        (2, 2, "x", 1),
+        (2, 2, "0x", 2),
+        (2, 2, "7x", 2),
+        (3, 2, "3x", 2),
+        (6, 2, "00x6x", 3),
+        (5, 2, ",3", 1),
+    ] {
+        let bytes = base_field(line, field, value.as_bytes());
+        refused_at(&bytes, 10, line as u64, field as u64, position);
+    }
+    let zeros = [&[b'0'; 70_000][..], b"x3"].concat();
+    refused_at(&base_field(3, 2, &zeros), 10, 3, 2, 70_001);
 }
 
 /// Base with this line of 0450, its second text of some length.
@@ -227,19 +272,19 @@ fn with_h020(fields: &str) -> Vec<u8> {
 fn amounts_dates_and_marks_of_h020() {
     open(&with_h020("0|31122012|1,00|0,00||||||a|b"), 5);
     open(&with_h020("9|||||||000000000000000000001,50|||"), 5);
-    for (fields, number, field) in [
-        ("x||||||||||", 10, 2),
-        ("00||||||||||", 11, 2),
-        ("|31112012|||||||||", 12, 3),
-        ("||1|||||||||", 10, 4),
-        ("|||1,0||||||||", 10, 5),
-        ("||||1,000|||||||", 10, 6),
-        ("|||||1.00||||||", 10, 7),
-        ("||||||-1,00|||||", 10, 8),
-        ("|||||||,00||||", 10, 9),
-        ("||||||||1,0,0|||", 10, 10),
+    for (fields, number, field, position) in [
+        ("x||||||||||", 10, 2, 1),
+        ("00||||||||||", 11, 2, 0),
+        ("|31112012|||||||||", 12, 3, 0),
+        ("||1|||||||||", 10, 4, 2),
+        ("|||1,0||||||||", 10, 5, 4),
+        ("||||1,000|||||||", 10, 6, 5),
+        ("|||||1.00||||||", 10, 7, 2),
+        ("||||||-1,00|||||", 10, 8, 1),
+        ("|||||||,00||||", 10, 9, 1),
+        ("||||||||1,0,0|||", 10, 10, 4),
     ] {
-        refused(&with_h020(fields), number, 5, field);
+        refused_at(&with_h020(fields), number, 5, field, position);
     }
     refused(&with_h020(&format!("|||||||||{}|", "n".repeat(256))), 11, 5, 11);
 }
@@ -288,6 +333,7 @@ fn the_byte_too_many() {
         number: 16,
         line: lines + 1,
         field: 0,
+        position: 0,
         lines,
         bytes: length,
     };

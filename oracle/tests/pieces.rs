@@ -5,13 +5,18 @@ use common::*;
 use oracle::generate::{case, pieces};
 use oracle::{counts, finish, verdict, Answer, Final, Checker, Verdict};
 
-const AFTER_FINISH: Answer = Answer::Refused { number: 17, line: 0, field: 0, lines: 0, bytes: 0 };
+/// A refusal with a position of 0, as all but 2 and 10 have it.
+const fn refusal(number: u8, line: u64, field: u64, lines: u64, bytes: u64) -> Answer {
+    Answer::Refused { number, line, field, position: 0, lines, bytes }
+}
+
+const AFTER_FINISH: Answer = refusal(17, 0, 0, 0, 0);
 
 fn of_verdict(verdict: Verdict) -> Answer {
     match verdict {
         Verdict::Open { lines, bytes } => Answer::Open { lines, bytes },
-        Verdict::Refused { number, line, field, lines, bytes } => {
-            Answer::Refused { number, line, field, lines, bytes }
+        Verdict::Refused { number, line, field, position, lines, bytes } => {
+            Answer::Refused { number, line, field, position, lines, bytes }
         }
     }
 }
@@ -19,8 +24,8 @@ fn of_verdict(verdict: Verdict) -> Answer {
 fn of_final(answer: Final) -> Answer {
     match answer {
         Final::Accepted { lines, bytes } => Answer::Accepted { lines, bytes },
-        Final::Refused { number, line, field, lines, bytes } => {
-            Answer::Refused { number, line, field, lines, bytes }
+        Final::Refused { number, line, field, position, lines, bytes } => {
+            Answer::Refused { number, line, field, position, lines, bytes }
         }
     }
 }
@@ -51,7 +56,7 @@ fn pieces_of_generated_files() {
 #[test]
 fn a_refusal_stays() {
     let mut checker = Checker::default();
-    let refusal = Answer::Refused { number: 1, line: 1, field: 0, lines: 0, bytes: 1 };
+    let refusal = refusal(1, 1, 0, 0, 1);
     assert_eq!(checker.piece(b""), Answer::Open { lines: 0, bytes: 0 });
     assert_eq!(checker.piece(b"xy"), refusal);
     assert_eq!(checker.piece(&file(&BASE)), refusal);
@@ -65,7 +70,7 @@ fn a_refusal_stays() {
 fn a_wrong_check_digit_stays() {
     let bytes = base_field(1, 6, b"11222333000144");
     let bar = bytes.windows(5).position(|bytes| bytes == b"0144|").unwrap() as u64 + 5;
-    let refusal = Answer::Refused { number: 24, line: 1, field: 6, lines: 0, bytes: bar };
+    let refusal = refusal(24, 1, 6, 0, bar);
     for cut in 0..bytes.len() {
         let mut checker = Checker::default();
         let first = match (cut as u64) < bar {
@@ -82,12 +87,47 @@ fn a_wrong_check_digit_stays() {
     }
 }
 
+/// Wherever the field is cut, the position is counted over all of it and kept
+/// with the refusal, for later pieces and for finish.
+#[test]
+fn a_position_stays() {
+    for (value, number, position) in [
+        (&b"9x012012"[..], 10, 2),
+        (b"x9x012012", 10, 1),
+        (b"0101201x", 10, 8),
+        (b"010120129999x", 10, 13),
+        (b"01\x0012012", 2, 3),
+        (b"x1x\n1", 2, 4),
+        (b"\x1f", 2, 1),
+        (b"\r", 7, 0),
+        (b"\n", 7, 0),
+        (b"0101201", 11, 0),
+        (b"31042012", 12, 0),
+    ] {
+        let bytes = base_field(1, 3, value);
+        let Verdict::Refused { bytes: judged, .. } = verdict(&bytes) else {
+            panic!("{} stands", value.escape_ascii());
+        };
+        let refusal =
+            Answer::Refused { number, line: 1, field: 3, position, lines: 0, bytes: judged };
+        for cut in 0..bytes.len() {
+            let mut checker = Checker::default();
+            checker.piece(&bytes[..cut]);
+            assert_eq!(checker.piece(&bytes[cut..]), refusal, "{} at {cut}", value.escape_ascii());
+            assert_eq!(checker.piece(b""), refusal);
+            assert_eq!(checker.piece(b"x|"), refusal);
+            assert_eq!(checker.finish(), refusal);
+            assert_eq!(checker.finish(), AFTER_FINISH);
+        }
+    }
+}
+
 #[test]
 fn finish_that_gave_14_is_still_a_finish() {
     let mut checker = Checker::default();
     let base = file(&BASE);
     checker.piece(&base[..109]);
-    let too_soon = Answer::Refused { number: 14, line: 6, field: 0, lines: 5, bytes: 109 };
+    let too_soon = refusal(14, 6, 0, 5, 109);
     assert_eq!(checker.finish(), too_soon);
     assert_eq!(checker.piece(&base[109..]), AFTER_FINISH);
 }
@@ -97,7 +137,7 @@ fn report_with_too_little_room() {
     let mut checker = Checker::default();
     checker.piece(&file(&BASE[..2]));
     let mut room = [7; 97];
-    let too_little = Answer::Refused { number: 18, line: 0, field: 0, lines: 0, bytes: 0 };
+    let too_little = refusal(18, 0, 0, 0, 0);
     assert_eq!(checker.report(&mut room), Err(too_little));
     assert_eq!(room, [7; 97]);
     assert_eq!(checker.piece(b""), Answer::Open { lines: 2, bytes: file(&BASE[..2]).len() as u64 });

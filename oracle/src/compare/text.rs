@@ -1,4 +1,5 @@
-//! Answers as the program under test writes them, without the line's end.
+//! Answers as the program under test writes them, without the line's end. A
+//! refusal gives its position after the field; the others have none to give.
 
 use crate::Answer;
 
@@ -6,8 +7,8 @@ pub fn answer_text(answer: Answer) -> String {
     match answer {
         Answer::Open { lines, bytes } => format!("open {lines} {bytes}"),
         Answer::Accepted { lines, bytes } => format!("accepted {lines} {bytes}"),
-        Answer::Refused { number, line, field, lines, bytes } => {
-            format!("refused {number} {line} {field} {lines} {bytes}")
+        Answer::Refused { number, line, field, position, lines, bytes } => {
+            format!("refused {number} {line} {field} {position} {lines} {bytes}")
         }
     }
 }
@@ -26,9 +27,10 @@ mod tests {
     fn texts_of_the_protocol() {
         assert_eq!(answer_text(Answer::Open { lines: 1, bytes: 20 }), "open 1 20");
         assert_eq!(answer_text(Answer::Accepted { lines: 6, bytes: 110 }), "accepted 6 110");
-        let refused = Answer::Refused { number: 13, line: 3, field: 2, lines: 2, bytes: 77 };
-        assert_eq!(answer_text(refused), "refused 13 3 2 2 77");
-        assert_eq!(answer_text(Answer::misuse(18)), "refused 18 0 0 0 0");
+        let refused =
+            Answer::Refused { number: 10, line: 3, field: 2, position: 4, lines: 2, bytes: 77 };
+        assert_eq!(answer_text(refused), "refused 10 3 2 4 2 77");
+        assert_eq!(answer_text(Answer::misuse(18)), "refused 18 0 0 0 0 0");
         assert_eq!(counts_text(13, 700, &[1, 0, 12]), "counts 13 700 1 0 12");
     }
 }

@@ -57,22 +57,45 @@ pub fn open(bytes: &[u8], lines: u64) {
     assert_eq!(verdict(bytes), Verdict::Open { lines, bytes: bytes.len() as u64 });
 }
 
-/// Refused with this number, line and field, whatever the byte.
+/// Refused with this number, line and field, whatever the byte. 2 and 10 have
+/// some position, all others none.
 #[track_caller]
 pub fn refused(bytes: &[u8], number: u8, line: u64, field: u64) {
+    let position = position_of_refusal(bytes);
+    assert_eq!(position > 0, [2, 10].contains(&number), "position {position}");
+    refused_at(bytes, number, line, field, position);
+}
+
+#[track_caller]
+fn position_of_refusal(bytes: &[u8]) -> u64 {
     match finish(bytes) {
-        Final::Refused { number: got, line: at, field: in_field, lines, .. } => {
-            assert_eq!((got, at, in_field, lines), (number, line, field, line - 1))
-        }
-        other => panic!("not refused by {number}: {other:?}"),
+        Final::Refused { position, .. } => position,
+        other => panic!("not refused: {other:?}"),
     }
 }
 
-/// Refused by the last of these bytes and not before.
+/// The same with this position.
+#[track_caller]
+pub fn refused_at(bytes: &[u8], number: u8, line: u64, field: u64, position: u64) {
+    let answer = finish(bytes);
+    let Final::Refused { bytes, .. } = answer else {
+        panic!("not refused by {number}: {answer:?}");
+    };
+    let wanted = Final::Refused { number, line, field, position, lines: line - 1, bytes };
+    assert_eq!(answer, wanted);
+}
+
+/// Refused by the last of these bytes and not before, with no position.
 #[track_caller]
 pub fn last_byte_refused(bytes: &[u8], number: u8, line: u64, field: u64) {
+    last_byte_refused_at(bytes, number, line, field, 0);
+}
+
+/// The same with this position.
+#[track_caller]
+pub fn last_byte_refused_at(bytes: &[u8], number: u8, line: u64, field: u64, position: u64) {
     let length = bytes.len() as u64;
-    let wanted = Verdict::Refused { number, line, field, lines: line - 1, bytes: length };
+    let wanted = Verdict::Refused { number, line, field, position, lines: line - 1, bytes: length };
     assert_eq!(verdict(bytes), wanted);
     assert!(matches!(verdict(&bytes[..bytes.len() - 1]), Verdict::Open { .. }));
 }

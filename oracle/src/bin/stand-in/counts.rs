@@ -66,5 +66,5 @@ pub fn no_numbers_after_finish(_: &[u8], answer: Answer, finished: bool) -> (u64
 /// 18 with the lines and bytes so far.
 pub fn no_room_with_numbers(answer: Answer) -> Answer {
     let (lines, bytes) = answer.lines_and_bytes();
-    Answer::Refused { number: 18, line: 0, field: 0, lines, bytes }
+    Answer::Refused { number: 18, line: 0, field: 0, position: 0, lines, bytes }
 }

@@ -35,7 +35,7 @@ pub fn open_for_14(all: &[u8], answer: Answer) -> Answer {
 }
 
 pub fn refusal(number: u8, lines: u64, field: u64, bytes: u64) -> Answer {
-    Answer::Refused { number, line: lines + 1, field, lines, bytes }
+    Answer::Refused { number, line: lines + 1, field, position: 0, lines, bytes }
 }
 
 pub fn is_not_14(answer: &Answer) -> bool {
@@ -79,10 +79,10 @@ pub fn refuses_990th(all: &[u8], answer: Answer) -> Answer {
 /// Gives another number where the refusing byte is of this sort.
 fn renumbered(all: &[u8], answer: Answer, from: u8, to: u8, sort: fn(u8) -> bool) -> Answer {
     match answer {
-        Answer::Refused { number, line, field, lines, bytes }
+        Answer::Refused { number, line, field, position, lines, bytes }
             if number == from && sort(all[bytes as usize - 1]) =>
         {
-            Answer::Refused { number: to, line, field, lines, bytes }
+            Answer::Refused { number: to, line, field, position, lines, bytes }
         }
         answer => answer,
     }
@@ -98,8 +98,8 @@ pub fn control_after_fields_is_2(all: &[u8], answer: Answer) -> Answer {
 
 pub fn refusal_moves_on(all: &[u8], answer: Answer) -> Answer {
     match answer {
-        Answer::Refused { number, field, lines, .. } => {
-            refusal(number, lines, field, all.len() as u64)
+        Answer::Refused { number, line, field, position, lines, .. } => {
+            Answer::Refused { number, line, field, position, lines, bytes: all.len() as u64 }
         }
         answer => answer,
     }
@@ -107,8 +107,8 @@ pub fn refusal_moves_on(all: &[u8], answer: Answer) -> Answer {
 
 pub fn line_of_14(_: &[u8], answer: Answer) -> Answer {
     match answer {
-        Answer::Refused { number: 14, field, lines, bytes, .. } => {
-            Answer::Refused { number: 14, line: lines, field, lines, bytes }
+        Answer::Refused { number: 14, field, position, lines, bytes, .. } => {
+            Answer::Refused { number: 14, line: lines, field, position, lines, bytes }
         }
         answer => answer,
     }
