@@ -5,6 +5,7 @@ use super::edge_values::edge_value;
 use super::fill::{good_line, Fullness};
 use super::random::Random;
 use super::tree::{good_file_with, TIGHT};
+use super::wrong_bytes::wrong_by_chance;
 use crate::kinds::{kind, places, Kind};
 use crate::rows::rows;
 use std::collections::BTreeMap;
@@ -17,14 +18,29 @@ pub fn any_field(random: &mut Random, room: usize) -> Vec<u8> {
 
 /// The same, kinds with few fields as often as those with many.
 pub fn any_kind(random: &mut Random, room: usize) -> Vec<u8> {
+    let (row, field) = of_any_kind(random, edge_fields());
+    with_field_at_edge(random, room, row, field)
+}
+
+/// A wrong byte in a number of any kind, marks and counts included.
+pub fn wrong_byte(random: &mut Random, room: usize) -> Vec<u8> {
+    let is_number = |&(row, field): &(usize, usize)| kind(row, field).numeric;
+    let (row, field) = of_any_kind(random, places().filter(is_number).collect());
+    let mut draft = good_file_with(random, room.min(200), row);
+    let place = *random.pick(&draft.places_of(rows()[row].code.as_bytes()));
+    draft.lines[place].fields[field - 1] = wrong_by_chance(random, kind(row, field));
+    draft.write()
+}
+
+/// One of these fields, kinds with few of them as often as those with many.
+fn of_any_kind(random: &mut Random, fields: Vec<(usize, usize)>) -> (usize, usize) {
     let mut kinds: BTreeMap<Kind, Vec<(usize, usize)>> = BTreeMap::new();
-    for (row, field) in edge_fields() {
+    for (row, field) in fields {
         kinds.entry(kind(row, field)).or_default().push((row, field));
     }
     let of_each_kind: Vec<Vec<(usize, usize)>> = kinds.into_values().collect();
     let fields = random.pick(&of_each_kind);
-    let (row, field) = *random.pick(fields);
-    with_field_at_edge(random, room, row, field)
+    *random.pick(fields)
 }
 
 /// Every field of one line filled that can be, all of them good.

@@ -14,7 +14,7 @@ pub struct Case {
 type Family = fn(&mut Random, usize) -> Vec<u8>;
 
 /// Weight, name and maker of each family.
-const MIX: [(usize, &str, Family); 33] = [
+const MIX: [(usize, &str, Family); 34] = [
     (18, "good", good),
     (4, "all bytes", edit_cases::all_bytes),
     (4, "zeros everywhere", count_cases::zeros_everywhere),
@@ -38,6 +38,7 @@ const MIX: [(usize, &str, Family); 33] = [
     (16, "any field", content_cases::any_field),
     (8, "any kind", content_cases::any_kind),
     (9, "check digits", content_cases::check_digits),
+    (8, "wrong byte", content_cases::wrong_byte),
     (9, "first line", content_cases::first_line),
     (5, "opening mark", content_cases::opening_mark),
     (11, "count", count_cases::count),

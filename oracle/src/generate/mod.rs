@@ -18,6 +18,7 @@ pub(crate) mod place_cases;
 mod random;
 mod shape_cases;
 pub(crate) mod tree;
+pub(crate) mod wrong_bytes;
 
 pub use mix::{case, small_case, Case, SMALL};
 pub use pieces::pieces;
