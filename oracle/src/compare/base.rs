@@ -20,6 +20,8 @@ pub enum Feed {
     MostlyShort,
     /// In one round, and never finished too early.
     Plainly,
+    /// Cut at every byte of the field in which it is decided.
+    ThroughField,
 }
 
 /// A file fed in a case, and what it is about.

@@ -3,7 +3,7 @@
 use super::base::{Feed, File};
 use super::chance::{chance_file, small_file};
 use super::command::Command;
-use super::cuts::{cut_file, cut_simply};
+use super::cuts::{cut_file, cut_simply, cut_through_field};
 use super::feed::commands;
 use super::sweep::{swept_files, Swept};
 use crate::generate::Random;
@@ -52,7 +52,7 @@ impl Plan {
             None => chance_file(&mut random),
         };
         let simple = match file.feed {
-            Feed::AtLength => false,
+            Feed::AtLength | Feed::ThroughField => false,
             Feed::MostlyShort => random.percent(90),
             Feed::Plainly => true,
         };
@@ -63,10 +63,12 @@ impl Plan {
     pub fn small_case(&self, number: usize) -> Case {
         let seed = self.case_seed(number);
         let mut random = Random::from_seed(seed);
-        let is_small = |file: &&File| file.bytes.len() <= 400;
-        let small: Vec<&File> = self.swept.files.iter().filter(is_small).collect();
-        let file = match number % 2 {
-            0 => small[number / 2 % small.len()].clone(),
+        let is_through_field = |file: &&File| file.feed == Feed::ThroughField;
+        let small = self.swept.files.iter().filter(|file| file.bytes.len() <= 400);
+        let (positions, others): (Vec<&File>, Vec<&File>) = small.partition(is_through_field);
+        let file = match number % 4 {
+            0 | 2 => others[number / 2 % others.len()].clone(),
+            1 => positions[number / 4 % positions.len()].clone(),
             _ => small_file(&mut random, 400),
         };
         let simple = random.percent(50);
@@ -90,9 +92,10 @@ fn mixed(seed: u64) -> Random {
 }
 
 fn made_case(number: usize, seed: u64, file: File, mut random: Random, simple: bool) -> Case {
-    let (way, rounds) = match simple {
-        true => cut_simply(&mut random, &file.bytes),
-        false => cut_file(&mut random, &file.bytes),
+    let (way, rounds) = match (file.feed, simple) {
+        (Feed::ThroughField, _) => cut_through_field(&file.bytes),
+        (_, true) => cut_simply(&mut random, &file.bytes),
+        (_, false) => cut_file(&mut random, &file.bytes),
     };
     let long_end = file.feed != Feed::Plainly && (!simple || random.percent(10));
     let commands = commands(&mut random, &file.bytes, rounds, long_end);
@@ -153,6 +156,7 @@ mod tests {
             "cut finely where it is decided",
             "whole",
             "two pieces",
+            "cut through the field",
         ];
         let texts: Vec<String> = cases().map(|case| case.about).collect();
         for way in ways {

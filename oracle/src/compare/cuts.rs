@@ -3,7 +3,7 @@
 
 use super::command::LONGEST_PIECE;
 use crate::generate::{pieces, Random};
-use crate::{verdict, Verdict, CR};
+use crate::{verdict, Verdict, BAR, CR};
 
 pub type Pieces = Vec<Vec<u8>>;
 
@@ -34,6 +34,36 @@ pub fn cut_simply(random: &mut Random, bytes: &[u8]) -> (&'static str, Vec<Piece
     }
     let cut = cut_place(random, bytes);
     ("two pieces", vec![cut_at(bytes, &[cut])])
+}
+
+/// The field in which it is decided cut at every byte: in one round all at
+/// once, then in one for each. Of long fields only the bytes near those that
+/// matter are taken.
+pub fn cut_through_field(bytes: &[u8]) -> (&'static str, Vec<Pieces>) {
+    let places = places_in_field(bytes);
+    let mut rounds = vec![cut_at(bytes, &places)];
+    rounds.extend(places.iter().map(|&place| cut_at(bytes, &[place])));
+    ("cut through the field", rounds)
+}
+
+/// From before the bar in front of the field to a few bytes after the one that
+/// decides.
+fn places_in_field(bytes: &[u8]) -> Vec<usize> {
+    let (decided, position) = match verdict(bytes) {
+        Verdict::Open { bytes, .. } => (bytes as usize, 0),
+        Verdict::Refused { bytes, position, .. } => (bytes as usize, position as usize),
+    };
+    let before = &bytes[..decided.saturating_sub(1)];
+    let bar = before.iter().rposition(|&byte| byte == BAR).unwrap_or(0);
+    let end = (decided + 2).min(bytes.len());
+    let matter = [bar, bar + position, bar + 256, bar + 65_536, decided];
+    let near = match end - bar {
+        0..=60 => usize::MAX,
+        61..=1000 => 3,
+        _ => 1,
+    };
+    let is_near = |place: &usize| matter.iter().any(|other| place.abs_diff(*other) <= near);
+    (bar..=end).filter(is_near).collect()
 }
 
 /// In one piece if it is short enough; no bytes are no piece or an empty one.
@@ -105,7 +135,7 @@ fn cut_place(random: &mut Random, bytes: &[u8]) -> usize {
     let place = random.below(bytes.len() + 1);
     let after = match random.below(10) {
         0..=2 => CR,
-        3 => crate::BAR,
+        3 => BAR,
         _ => return place,
     };
     bytes[place..].iter().position(|&byte| byte == after).map_or(place, |found| place + found + 1)
@@ -127,7 +157,11 @@ mod tests {
         for seed in 0..3000 {
             let bytes = case(seed, if seed % 50 == 0 { 150_000 } else { 300 }).bytes;
             let mut random = Random::from_seed(seed);
-            for (way, rounds) in [cut_file(&mut random, &bytes), cut_simply(&mut random, &bytes)] {
+            for (way, rounds) in [
+                cut_file(&mut random, &bytes),
+                cut_simply(&mut random, &bytes),
+                cut_through_field(&bytes),
+            ] {
                 assert!(!rounds.is_empty());
                 for pieces in rounds {
                     assert!(pieces.iter().all(|piece| piece.len() <= LONGEST_PIECE));
@@ -135,6 +169,23 @@ mod tests {
                 }
             }
         }
+    }
+
+    /// From before the bar of field 3 to two bytes after the one that decides.
+    #[test]
+    fn every_byte_of_a_field() {
+        let start = b"|0000|LFPD";
+        let places = |value: &[u8]| {
+            let places = places_in_field(&[&start[..], b"|", value, b"|xyz"].concat());
+            places.iter().map(|place| place - start.len()).collect::<Vec<usize>>()
+        };
+        assert_eq!(places(b"9x012012"), (0..=12).collect::<Vec<usize>>());
+        assert_eq!(places(b"9\x00012"), (0..=5).collect::<Vec<usize>>());
+        let long = places(&[&[b'7'; 300][..], b"x", &[b'7'; 99]].concat());
+        for place in [0, 1, 2, 255, 256, 257, 300, 301, 302, 400, 401, 402] {
+            assert!(long.contains(&place), "{place}");
+        }
+        assert!(long.len() < 40);
     }
 
     #[test]

@@ -1,9 +1,10 @@
-//! The document's own list of cases, those of request h, and cases of the
-//! rules they leave out.
+//! The document's own list of cases, those of requests h and e, and cases of
+//! the rules they leave out.
 
 use super::base::{
     base, base_field, base_until, base_with, block_start, block_start_with, file, written, File, BASE,
 };
+use super::known_positions::known_positions;
 
 pub fn known_files() -> Vec<File> {
     [
@@ -15,6 +16,7 @@ pub fn known_files() -> Vec<File> {
         other_rules(),
         numbers_with_check_digits(),
         other_fields_with_check_digits(),
+        known_positions(),
     ]
     .concat()
 }

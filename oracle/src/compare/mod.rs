@@ -13,6 +13,7 @@ mod feed;
 mod field_values;
 mod kind_tally;
 mod known;
+mod known_positions;
 mod long_files;
 mod options;
 mod outcome;
@@ -25,6 +26,7 @@ mod sweep_fields;
 mod sweep_kinds;
 mod sweep_pairs;
 mod sweep_places;
+mod sweep_positions;
 mod sweep_rows;
 mod text;
 

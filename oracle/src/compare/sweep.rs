@@ -11,6 +11,7 @@ use super::sweep_fields::field_files;
 use super::sweep_kinds::kind_files;
 use super::sweep_pairs::pair_files;
 use super::sweep_places::place_files;
+use super::sweep_positions::position_files;
 use super::sweep_rows::row_files;
 use crate::generate::Random;
 
@@ -38,6 +39,7 @@ fn other_files(random: &mut Random) -> Vec<File> {
         place_files(random),
         long_files(),
         byte_files(),
+        position_files(random),
         pair_files(),
     ]
     .concat();
