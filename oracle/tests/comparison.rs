@@ -72,7 +72,7 @@ fn short_runs_say_what_they_did_not_show() {
 #[test]
 fn every_fault_is_caught() {
     let faults = faults();
-    assert_eq!(faults.len(), 84);
+    assert_eq!(faults.len(), 111);
     for fault in faults.iter().filter(|fault| !SEEN_IN_LONG_RUNS.contains(&fault.as_str())) {
         assert_caught(fault, &["--cases", "500"]);
     }
@@ -87,6 +87,9 @@ fn faults_are_caught_with_other_seeds() {
         ("any-parent", "5"),
         ("second-check-digit-only", "6"),
         ("remainder-at-most-2", "7"),
+        ("position-counted-in-its-piece", "8"),
+        ("2-at-a-wrong-character", "9"),
+        ("too-many-decimals-at-the-end", "10"),
     ] {
         assert_caught(fault, &["--cases", "500", "--seed", seed]);
     }
@@ -184,7 +187,9 @@ fn stored_batches() {
     };
     let (commands, answers) = store("one");
     assert_eq!(fed(&[], &commands), answers);
-    assert_ne!(fed(&["loses-cr"], &commands), answers);
+    for fault in ["loses-cr", "position-of-last-wrong-byte", "2-in-a-code-has-no-position"] {
+        assert_ne!(fed(&[fault], &commands), answers, "{fault}");
+    }
     let (again, same) = store("other");
     assert_eq!((fs::read(&commands).unwrap(), answers.clone()), (fs::read(again).unwrap(), same));
     let text = String::from_utf8(answers).unwrap();

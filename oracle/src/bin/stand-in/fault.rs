@@ -1,7 +1,8 @@
 //! The faults, each the honest behaviour with one thing other.
 
+use crate::told::Told;
 use crate::{
-    check_digits, counts, forgives, forgives_fields, joins, refuses_fields, says, sees,
+    check_digits, counts, forgives, forgives_fields, joins, positions, refuses_fields, says, sees,
 };
 use oracle::Answer;
 
@@ -13,6 +14,8 @@ pub struct Fault {
     pub sees: fn(&[u8]) -> Vec<u8>,
     /// What it says, given all bytes and the answer for those it saw.
     pub says: fn(&[u8], Answer) -> Answer,
+    /// The position it gives with a refusal.
+    pub position: fn(&Told) -> u64,
     /// The counts of its report, given the bytes it saw and whether finish was
     /// asked.
     pub counts: fn(&[u8], bool) -> [u64; 98],
@@ -33,6 +36,7 @@ const NONE: Fault = Fault {
     join: |joined, piece| joined.extend_from_slice(piece),
     sees: <[u8]>::to_vec,
     says: |_, answer| answer,
+    position: |told| told.position,
     counts: |bytes, _| oracle::counts(bytes),
     numbers: |_, answer, _| answer.lines_and_bytes(),
     no_room: |_| Answer::misuse(18),
@@ -54,6 +58,10 @@ const fn saying(name: &'static str, says: fn(&[u8], Answer) -> Answer) -> Fault 
     Fault { name, says, ..NONE }
 }
 
+const fn placing(name: &'static str, position: fn(&Told) -> u64) -> Fault {
+    Fault { name, position, ..NONE }
+}
+
 const fn counting(name: &'static str, counts: fn(&[u8], bool) -> [u64; 98]) -> Fault {
     Fault { name, counts, ..NONE }
 }
@@ -62,7 +70,7 @@ const fn numbering(name: &'static str, numbers: fn(&[u8], Answer, bool) -> (u64,
     Fault { name, numbers, ..NONE }
 }
 
-pub const FAULTS: [Fault; 79] = [
+pub const FAULTS: [Fault; 106] = [
     joining("loses-cr", joins::without_last_cr),
     joining("loses-cr-at-empty-piece", joins::cr_lost_at_empty_piece),
     joining("loses-code", joins::code_lost),
@@ -125,6 +133,33 @@ pub const FAULTS: [Fault; 79] = [
     saying("line-of-14", says::line_of_14),
     saying("missing-field-last", says::missing_field_last),
     saying("empty-count-stands", forgives::empty_count_stands),
+    placing("position-from-0", positions::from_0),
+    placing("position-in-8-bits", positions::in_bits::<8>),
+    placing("position-in-16-bits", positions::in_bits::<16>),
+    placing("position-at-most-255", positions::at_most_255),
+    placing("position-of-last-wrong-byte", positions::last_wrong),
+    placing("position-of-the-bar", positions::of_the_bar),
+    placing("too-short-at-its-length", positions::too_short_at_its_length),
+    placing("second-comma-passes", positions::second_comma_passes),
+    placing("comma-first-passes", positions::comma_first_passes),
+    placing("comma-among-digits-passes", positions::comma_among_digits_passes),
+    placing("too-many-decimals-at-the-end", positions::too_many_at_the_end),
+    placing("too-many-decimals-at-the-comma", positions::too_many_at_the_comma),
+    placing("position-heeds-size", positions::heeds_size),
+    placing("position-heeds-value", positions::heeds_value),
+    placing("2-has-no-position", positions::none_for_2),
+    placing("2-in-a-code-has-no-position", positions::none_in_a_code),
+    placing("2-counted-over-the-line", positions::of_2_over_the_line),
+    placing("2-at-a-wrong-character", positions::of_2_at_a_wrong_character),
+    placing("7-has-a-position", positions::for_number::<7>),
+    placing("11-has-a-position", positions::for_number::<11>),
+    placing("12-has-a-position", positions::for_number::<12>),
+    placing("13-has-a-position", positions::for_number::<13>),
+    placing("24-has-a-position", positions::for_number::<24>),
+    placing("position-lost-at-next-piece", positions::lost_at_next_piece),
+    placing("position-lost-at-finish", positions::lost_at_finish),
+    placing("position-counted-in-its-piece", positions::counted_in_its_piece),
+    placing("position-forgotten-at-a-cut", positions::forgotten_at_a_cut),
     counting("counts-line-at-hand", counts::line_at_hand),
     counting("counts-cleared-by-finish", counts::none_after_finish),
     counting("counts-at-cr", counts::at_cr),

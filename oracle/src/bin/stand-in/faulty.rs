@@ -1,6 +1,7 @@
 //! A checker with one fault in it.
 
 use crate::fault::Fault;
+use crate::told::with_position;
 use crate::Answers;
 use oracle::compare::{answer_text, counts_text, Command};
 use oracle::{finish, verdict, Answer};
@@ -9,6 +10,8 @@ pub struct Faulty {
     fault: &'static Fault,
     /// All bytes received.
     all: Vec<u8>,
+    /// How many had come before each piece.
+    pieces: Vec<usize>,
     /// What the fault makes of them when pieces come in.
     joined: Vec<u8>,
     finished: bool,
@@ -36,16 +39,19 @@ impl Answers for Faulty {
 
 impl Faulty {
     pub fn new(fault: &'static Fault) -> Self {
-        Faulty { fault, all: Vec::new(), joined: Vec::new(), finished: false }
+        let (all, pieces, joined) = (Vec::new(), Vec::new(), Vec::new());
+        Faulty { fault, all, pieces, joined, finished: false }
     }
 
     fn start_anew(&mut self) {
         self.all.clear();
+        self.pieces.clear();
         self.joined.clear();
         self.finished &= self.fault.stays_finished;
     }
 
     fn take(&mut self, piece: &[u8]) {
+        self.pieces.push(self.all.len());
         self.all.extend_from_slice(piece);
         (self.fault.join)(&mut self.joined, piece);
     }
@@ -64,7 +70,13 @@ impl Faulty {
     /// What it says of the bytes received, finish left aside.
     fn so_far(&self) -> Answer {
         let answer = verdict(&(self.fault.sees)(&self.joined)).into();
-        (self.fault.says)(&self.all, answer)
+        self.told(answer, false)
+    }
+
+    /// What it makes of an answer.
+    fn told(&self, answer: Answer, is_finish: bool) -> Answer {
+        let said = (self.fault.says)(&self.all, answer);
+        with_position(self.fault.position, &self.all, &self.pieces, said, is_finish)
     }
 
     fn finish(&mut self) -> Answer {
@@ -73,7 +85,7 @@ impl Faulty {
         }
         let answer = finish(&(self.fault.sees)(&self.joined)).into();
         self.finished = (self.fault.ends_with)(&answer);
-        (self.fault.says)(&self.all, answer)
+        self.told(answer, true)
     }
 
     fn report(&self) -> String {

@@ -10,9 +10,11 @@ mod forgives;
 mod forgives_fields;
 mod honest;
 mod joins;
+mod positions;
 mod refuses_fields;
 mod says;
 mod sees;
+mod told;
 
 use fault::FAULTS;
 use faulty::Faulty;
