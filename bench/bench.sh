@@ -1,6 +1,6 @@
 #!/usr/bin/env bash
 # bench.sh [PROGRAM]: compares PROGRAM (target/bin/sefcheck), a checker that reads standard input and
-# prints the six lines, with the C peer beside this script: executed
+# prints the seven lines, with the C peer beside this script: executed
 # instructions per byte on accepted files of 1, 2 and 4 MB, how they grow, and
 # on x86-64 the times over a file of 64 MB. Takes less than two minutes.
 # Ends with 0 only if both gave the same answers and all was measured.
@@ -49,7 +49,7 @@ check_answers() {
     cmp -s "$dir/program.out" "$dir/peer.out" ||
       stop "different answers on $mb MB: program $(show program), peer $(show peer)"
   done
-  printf 'answers: the same six lines on %s and %s MB\n' "${sizes// /, }" "$long"
+  printf 'answers: the same seven lines on %s and %s MB\n' "${sizes// /, }" "$long"
 }
 
 show() { tr '\n' ' ' < "$dir/$1.out" | cut -c 1-200; } # show program|peer

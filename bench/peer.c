@@ -2,7 +2,7 @@
  * The checker's peer in C: reads a file in pieces, in one pass and in constant
  * memory, and says which rule of the rules document it breaks first.
  *
- *     peer           reads standard input and prints the six lines
+ *     peer           reads standard input and prints the seven lines
  *     peer pieces    reads commands on standard input and answers each one
  *
  * A command is a letter and a length of 4 bytes, low byte first, that is 0
@@ -28,6 +28,9 @@
 #else
 #define STEPS false
 #endif
+
+/* For what only a refused file comes to: kept out of the loops that all files go through. */
+#define RARE __attribute__((cold, noinline))
 
 #define MOST_BYTES UINT64_C(4294967295)
 #define LONGEST_PIECE 65536
@@ -219,7 +222,7 @@ struct checker {
     uint64_t length;
     uint64_t value; /* of its digits, see VALUE_FULL */
     uint64_t comma; /* the length with the comma, 0 before it comes */
-    bool wrong;     /* bytes that may not stand there have come */
+    uint64_t wrong; /* the length with the first byte that may not stand there, likewise */
     uint8_t digits[CNPJ_SIZE]; /* of a CNPJ or CPF */
 
     /* the line in hand, its open lines by level, and its block */
@@ -487,6 +490,13 @@ static unsigned judge_field(struct checker *c)
 
 typedef const uint8_t *place;
 
+/* A byte that may not stand behind so many of its field: the place of the first such byte is kept. */
+RARE static void take_wrong(struct checker *c, uint64_t before)
+{
+    if (c->wrong == 0)
+        c->wrong = before + 1;
+}
+
 static place take_text(place at, place end)
 {
     while (at != end && !special[*at])
@@ -499,22 +509,24 @@ static place take_fixed(struct checker *c, place at, place end)
     uint64_t length = c->length;
     for (; at != end && !special[*at]; at++, length++)
         if (length >= c->kind->size || *at != (uint8_t)c->kind->text[length])
-            c->wrong = true;
+            take_wrong(c, length);
     return at;
 }
 
-static place take_digits(struct checker *c, place at, place end)
+static place take_digits(struct checker *c, place from, place end)
 {
+    place at = from;
     for (; at != end; at++) {
         if (digit[*at])
             continue;
         if (special[*at])
             break;
-        c->wrong = true;
+        take_wrong(c, c->length + (uint64_t)(at - from));
     }
     return at;
 }
 
+/* The decimals are not counted as they come: the comma's place and the length tell their number. */
 static place take_decimals(struct checker *c, place from, place end)
 {
     place at = from;
@@ -526,7 +538,7 @@ static place take_decimals(struct checker *c, place from, place end)
         if (*at == ',' && c->comma == 0)
             c->comma = c->length + (uint64_t)(at - from) + 1;
         else
-            c->wrong = true;
+            take_wrong(c, c->length + (uint64_t)(at - from));
     }
     return at;
 }
@@ -536,18 +548,19 @@ static place take_checked(struct checker *c, place at, place end)
     uint64_t length = c->length;
     for (; at != end && !special[*at]; at++, length++) {
         if (!digit[*at])
-            c->wrong = true;
+            take_wrong(c, length);
         else if (length < CNPJ_SIZE)
             c->digits[length] = *at;
     }
     return at;
 }
 
-static place take_value(struct checker *c, place at, place end)
+static place take_value(struct checker *c, place from, place end)
 {
+    place at = from;
     for (; at != end && !special[*at]; at++) {
         if (!digit[*at])
-            c->wrong = true;
+            take_wrong(c, c->length + (uint64_t)(at - from));
         else if (c->value < VALUE_FULL)
             c->value = c->value * 10 + (unsigned)(*at - '0');
     }
@@ -819,24 +832,51 @@ enum result { STILL_OPEN, IS_ACCEPTED, IS_REFUSED, IS_REPORTED };
 
 struct answer {
     enum result result;
-    unsigned number, line, field, lines;
+    unsigned number, line, field;
+    uint64_t byte; /* of the field */
+    unsigned lines;
     uint64_t bytes;
 };
 
+/* Where a field with decimals leaves its form: behind its end if it is only too short. */
+static uint64_t wrong_decimals(const struct checker *c)
+{
+    if (c->comma == 1)
+        return 1;
+    uint64_t full = c->comma == 0 ? c->length : c->comma + c->kind->size;
+    if (c->wrong != 0 && c->wrong <= full)
+        return c->wrong;
+    return (c->length < full ? c->length : full) + 1;
+}
+
+static uint64_t wrong_byte(const struct checker *c)
+{
+    return c->kind->form == DECIMALS ? wrong_decimals(c) : c->wrong;
+}
+
+/* Only 2 and 10 name a byte. It is found when asked for: a refusal leaves the field in hand as it is. */
+static uint64_t refused_byte(const struct checker *c)
+{
+    if (c->refusal == 2)
+        return c->length + 1;
+    return c->refusal == 10 ? wrong_byte(c) : 0;
+}
+
 static struct answer answer(const struct checker *c, enum result result)
 {
-    struct answer a = {result, 0, 0, 0, c->lines, c->bytes};
+    struct answer a = {.result = result, .lines = c->lines, .bytes = c->bytes};
     if (c->stage == REFUSED) {
         a.result = IS_REFUSED;
         a.number = c->refusal;
         a.line = c->lines + 1;
         a.field = c->refused_field;
+        a.byte = refused_byte(c);
     }
     return a;
 }
 
-static const struct answer after_finish = {IS_REFUSED, 17, 0, 0, 0, 0};
-static const struct answer too_little_room = {IS_REFUSED, 18, 0, 0, 0, 0};
+static const struct answer after_finish = {.result = IS_REFUSED, .number = 17};
+static const struct answer too_little_room = {.result = IS_REFUSED, .number = 18};
 
 static struct answer piece(struct checker *c, place bytes, size_t length)
 {
@@ -868,7 +908,7 @@ static struct answer report(const struct checker *c, uint32_t *counts, size_t ro
     if (room < ROW_NONE)
         return too_little_room;
     memcpy(counts, c->counts, sizeof c->counts);
-    return (struct answer){IS_REPORTED, 0, 0, 0, c->lines, c->bytes};
+    return (struct answer){.result = IS_REPORTED, .lines = c->lines, .bytes = c->bytes};
 }
 
 /* ------------------------------------------------------------ the programs */
@@ -876,11 +916,11 @@ static struct answer report(const struct checker *c, uint32_t *counts, size_t ro
 static uint8_t buffer[LONGEST_PIECE];
 static struct checker checker;
 
-static void print_six_lines(struct answer a)
+static void print_seven_lines(struct answer a)
 {
     printf("result=%s\n", a.result == IS_ACCEPTED ? "accepted" : "refused");
     printf("refusal=%u\nline=%u\nfield=%u\n", a.number, a.line, a.field);
-    printf("lines=%u\nbytes=%" PRIu64 "\n", a.lines, a.bytes);
+    printf("byte=%" PRIu64 "\nlines=%u\nbytes=%" PRIu64 "\n", a.byte, a.lines, a.bytes);
 }
 
 static bool check_input(void)
@@ -891,14 +931,14 @@ static bool check_input(void)
         piece(&checker, buffer, length);
     if (ferror(stdin))
         return false;
-    print_six_lines(finish(&checker));
+    print_seven_lines(finish(&checker));
     return true;
 }
 
 static void print_answer(struct answer a)
 {
     if (a.result == IS_REFUSED)
-        printf("refused %u %u %u", a.number, a.line, a.field);
+        printf("refused %u %u %u %" PRIu64, a.number, a.line, a.field, a.byte);
     else
         printf("%s", a.result == STILL_OPEN ? "open" : "accepted");
     printf(" %u %" PRIu64 "\n", a.lines, a.bytes);
