@@ -59,7 +59,7 @@ impl Plan {
         made_case(number, seed, file, random, simple)
     }
 
-    /// A case for a stored run: its file small, few rounds.
+    /// A case for a stored run: its file small; one of four is cut through a field.
     pub fn small_case(&self, number: usize) -> Case {
         let seed = self.case_seed(number);
         let mut random = Random::from_seed(seed);

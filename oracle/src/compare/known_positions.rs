@@ -107,6 +107,7 @@ fn long_fields() -> Vec<File> {
 #[cfg(test)]
 mod tests {
     use super::*;
+    use crate::compare::Plan;
     use crate::{verdict, Verdict};
 
     /// Number and position of each of these.
@@ -137,11 +138,17 @@ mod tests {
         assert_eq!(refusals(control_bytes_in_codes()), in_codes);
     }
 
-    /// One of four cases is of these there, the files no longer than 400 bytes.
+    /// In the run of 200 cases that is stored, one of four is of these.
     #[test]
     fn the_short_ones_are_in_a_stored_run() {
-        let short = known_positions().iter().filter(|file| file.bytes.len() <= 400).count();
-        assert_eq!(short, 50);
+        let plan = Plan::new(11);
+        let stored: Vec<String> = (0..200).map(|number| plan.small_case(number).about).collect();
+        let files = known_positions();
+        let short = files.iter().filter(|file| file.bytes.len() <= 400);
+        for file in short {
+            let is_of_it = |about: &String| about.starts_with(&file.about);
+            assert!(stored.iter().any(is_of_it), "{} is not in the run", file.about);
+        }
     }
 
     #[test]

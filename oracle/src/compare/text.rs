@@ -1,5 +1,6 @@
 //! Answers as the program under test writes them, without the line's end. A
-//! refusal gives its position after the field; the others have none to give.
+//! refusal gives its position after the field; of the others it is 0 and not
+//! written, like line and field.
 
 use crate::Answer;
 

@@ -177,7 +177,8 @@ pub fn control_after_wrong(kind: Kind) -> Vec<Named> {
     starts.into_iter().zip([0, LF, CR, 31]).map(with).collect()
 }
 
-/// A value of an N field that is refused by 10, now and then by 2.
+/// A value of an N field that is nearly always refused by 10, now and then by 2
+/// or 7.
 pub fn wrong_by_chance(random: &mut Random, kind: Kind) -> Vec<u8> {
     let length = kind.size.unwrap_or(random.between(1, 9));
     let mut value = random.digits(length);
