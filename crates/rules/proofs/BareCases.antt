@@ -10,9 +10,11 @@ use Rattle.rules.specs.Order
 use Rattle.rules.specs.Counts
 use Rattle.rules.specs.CheckDigits
 use Rattle.rules.specs.Fields
+use Rattle.rules.specs.Position
 use Rattle.rules.specs.Rules
 use Rattle.rules.specs.BareCases.{rowNamed, rowsNamed, placed, dueAfter, lineCases, numberOf, brokenAfter, dated, byteCases}
 use Rattle.rules.specs.BareCases.{digitAfter, brokenDigits, digitCases, checkedBarCases}
+use Rattle.rules.specs.BareCases.{firstWrong, positionCases}
 
 pub line-cases : map (λ c. c .says) lineCases ≡ map (λ c. c .given) lineCases
 unfolding lineCases rowNamed rowsNamed placed dueAfter Text.bytes Text.codeNumber Text.textNumber Rows.rowTable
@@ -51,3 +53,8 @@ unfolding checkedBarCases numberOf brokenAfter Text.bytes Text.codeNumber Text.t
     Rules.breaks5 Rules.breaks6 Rules.breaks7 Rules.breaks8 Rules.breaks9 Rules.breaks10 Rules.breaks11
     Rules.breaks12 Rules.breaks13 Rules.breaks24 Rules.rules Rules.firstBroken
 checked-bar-cases = refl
+
+pub position-cases : map (λ c. c .says) positionCases ≡ map (λ c. c .given) positionCases
+unfolding positionCases firstWrong Text.bytes Bytes.empty Fields.isDigit Fields.allDigits Fields.isDecimal Fields.upToDecimals
+    Fields.beginsDecimal Fields.formOf Position.position
+position-cases = refl

@@ -15,5 +15,7 @@ pub mod SoundLaws
 pub mod StatedLaws
 pub mod TotalLaws
 pub mod FollowsLaws
+pub mod DecimalLaws
+pub mod PositionLaws
 pub mod StarredCases
 pub mod BareCases

@@ -1,17 +1,19 @@
--- 01, "Both sides of each rule", and 02, request h: starred cases and others, each for one rule, without the bytes around it. The
--- starred cases are whole files (Cases); these are short enough that a check which refuses one prints the two numbers that differ.
+-- 01, "Both sides of each rule", and 02, requests h and e: starred cases and others, each for one rule, without the bytes around
+-- it. The starred cases are whole files (Cases); these are short enough that a check which refuses one prints the two numbers
+-- that differ.
 use mathlib.Core.List.{List, [], _∷_, map, reverse}
 use Prim.Native.Nat.{ℕ}
 use Prim.Native.String.{String}
 use Rattle.layout.specs.Pick.{pick}
 use Rattle.layout.specs.Text.{bytes, textNumber}
 use Rattle.layout.specs.Rows.{rowOfCode}
-use Rattle.layout.specs.Kind.{Kind, date, cnpj, cpf}
+use Rattle.layout.specs.Kind.{Kind, C, decimals, date, cnpj, cpf, opens, count}
 use Rattle.rules.specs.Bytes.{bar, CR, LF}
 use Rattle.rules.specs.Order.{canStand, hasRoom}
 use Rattle.rules.specs.Counts.{due}
 use Rattle.rules.specs.CheckDigits.{digitsOf, checkDigit, cnpjWeights, cpfWeights}
 use Rattle.rules.specs.Fields.{formOf}
+use Rattle.rules.specs.Position.{position}
 use Rattle.rules.specs.Rules.{Fault, clear, breaks, rules, firstBroken}
 
 -- the number that the documents say, and the one that the definitions give
@@ -65,6 +67,30 @@ numberOf (breaks number field) = number
 
 unfoldable pub brokenAfter : String → ℕ → ℕ
 brokenAfter line b = numberOf (firstBroken rules (reverse (bytes line)) b)
+
+-- 02, request e: the position of a field's first wrong byte
+unfoldable pub firstWrong : Kind → String → ℕ
+firstWrong k text = position (formOf k) (reverse (bytes text))
+
+unfoldable pub positionCases : List Bare
+positionCases =
+    -- a number with two decimals: one decimal too many, one too few, no digit before the comma
+    bare 6 (firstWrong (decimals 2) "12,555") ∷
+    bare 5 (firstWrong (decimals 2) "12,5") ∷
+    bare 1 (firstWrong (decimals 2) ",50") ∷
+    -- a letter, a second comma, no comma; the first of two wrong bytes
+    bare 2 (firstWrong (decimals 2) "1x") ∷
+    bare 3 (firstWrong (decimals 2) "1,,") ∷
+    bare 3 (firstWrong (decimals 2) "12") ∷
+    bare 2 (firstWrong (decimals 2) "1x,5x") ∷
+    -- dates, counts and openings are digits here, and the size is set aside
+    bare 2 (firstWrong date "9x012012") ∷
+    bare 2 (firstWrong count "3x") ∷
+    bare 2 (firstWrong opens "0x") ∷
+    bare 10 (firstWrong date "010120120x") ∷
+    -- one past the end of a text, of which no byte is asked
+    bare 3 (firstWrong (C 60) "1x") ∷
+    []
 
 -- rule 12 of a date; 0 where there is such a date
 unfoldable pub dated : String → ℕ

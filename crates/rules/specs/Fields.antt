@@ -2,7 +2,7 @@
 -- A word is a field's bytes, the latest first.
 use mathlib.Core.Bool.{Bool, true, false, not, _&&_, _||_}
 use mathlib.Core.List.{List, [], _∷_, reverse}
-use Prim.Native.Nat.{ℕ, suc, _+_, _-_, _*_, _/_, _%_}
+use Prim.Native.Nat.{ℕ, zero, suc, _+_, _-_, _*_, _/_, _%_}
 use Prim.Native.String.{String}
 use lib.Dec.{eqb, leb}
 use lib.ListN.{getD, take, drop}
@@ -31,6 +31,15 @@ comma = 44
 unfoldable pub isDecimal : ℕ → List ℕ → Bool
 isDecimal d w =
     allDigits (take d w) && eqb (getD w d 0) comma && not (empty (drop (suc d) w)) && allDigits (drop (suc d) w)
+
+-- a number with d decimals or fewer
+unfoldable pub upToDecimals : ℕ → List ℕ → Bool
+upToDecimals zero w = isDecimal zero w
+upToDecimals (suc d) w = isDecimal (suc d) w || upToDecimals d w
+
+-- what a number with d decimals can begin with: digits alone, or such a number
+unfoldable pub beginsDecimal : ℕ → List ℕ → Bool
+beginsDecimal d w = allDigits w || upToDecimals d w
 
 -- "a Gregorian date ddmmyyyy, year 1900 to 2099"
 unfoldable pub isLeapYear : ℕ → Bool
@@ -66,6 +75,8 @@ isText text w = sameBytes w (reverse (bytes text))
 pub record Form : Type 0 where
   -- rule 10, "wrong characters or decimals", where the field is not empty
   pub characters : List ℕ → Bool
+  -- 02, request e: a field that passes rule 10 can begin with these bytes
+  pub begins : List ℕ → Bool
   -- rule 11, "wrong size", where the field is not empty: asked of the number of bytes
   pub size : ℕ → Bool
   -- rule 12, "not the fixed text; field 2 of an opening not 0 or 1; no such date"
@@ -84,31 +95,46 @@ atMost s n = leb n s
 abbrev exactly : ℕ → ℕ → Bool
 exactly s n = eqb n s
 
-abbrev form : (List ℕ → Bool) → (ℕ → Bool) → (List ℕ → Bool) → Form
-form characters size content =
-    record { characters = characters; size = size; content = content; isCount = false; digits = any }
+abbrev form : (List ℕ → Bool) → (List ℕ → Bool) → (ℕ → Bool) → (List ℕ → Bool) → Form
+form characters begins size content =
+    record { characters = characters; begins = begins; size = size; content = content; isCount = false; digits = any }
+
+-- a text holds any bytes, and can begin with any; a number without decimals digits, and can begin with digits
+abbrev ofText : (ℕ → Bool) → (List ℕ → Bool) → Form
+ofText size content = form any any size content
+
+abbrev ofDigits : (ℕ → Bool) → (List ℕ → Bool) → Form
+ofDigits size content = form allDigits allDigits size content
 
 -- digits of a size, the last two of them check digits
 abbrev withCheckDigits : ℕ → (List ℕ → Bool) → Form
 withCheckDigits s right =
-    record { characters = allDigits; size = exactly s; content = any; isCount = false; digits = λ w. right (digitsOf w) }
+    record {
+      characters = allDigits;
+      begins = allDigits;
+      size = exactly s;
+      content = any;
+      isCount = false;
+      digits = λ w. right (digitsOf w);
+    }
 
 -- a date is N of size 8, a CNPJ of 14, a CPF of 11, field 2 of an opening of 1, the fixed texts C of sizes 4 and 6; counts are
 -- digits of any length
 unfoldable pub formOf : Kind → Form
-formOf codeField = form any any any
-formOf (C s) = form any (atMost s) any
-formOf (N s) = form allDigits (exactly s) any
-formOf N- = form allDigits any any
-formOf (decimals d) = form (isDecimal d) any any
-formOf date = form allDigits (exactly 8) (λ w. empty w || isDate (value w))
+formOf codeField = ofText any any
+formOf (C s) = ofText (atMost s) any
+formOf (N s) = ofDigits (exactly s) any
+formOf N- = ofDigits any any
+formOf (decimals d) = form (isDecimal d) (beginsDecimal d) any any
+formOf date = ofDigits (exactly 8) (λ w. empty w || isDate (value w))
 formOf cnpj = withCheckDigits 14 isCnpj
 formOf cpf = withCheckDigits 11 isCpf
-formOf lfpd = form any (atMost 4) (isText "LFPD")
-formOf brasil = form any (atMost 6) (isText "Brasil")
-formOf opens = form allDigits (exactly 1) (λ w. isText "0" w || isText "1" w)
-formOf count = record { characters = allDigits; size = any; content = any; isCount = true; digits = any }
-formOf noField = form any any any
+formOf lfpd = ofText (atMost 4) (isText "LFPD")
+formOf brasil = ofText (atMost 6) (isText "Brasil")
+formOf opens = ofDigits (exactly 1) (λ w. isText "0" w || isText "1" w)
+formOf count =
+    record { characters = allDigits; begins = allDigits; size = any; content = any; isCount = true; digits = any }
+formOf noField = ofText any any
 
 -- a count states the number n
 unfoldable pub states : ℕ → List ℕ → Bool

@@ -3,6 +3,7 @@ pub mod Order
 pub mod Counts
 pub mod CheckDigits
 pub mod Fields
+pub mod Position
 pub mod Rules
 pub mod Verdict
 pub mod Totals
