@@ -7,12 +7,12 @@ use Rattle.rules.specs.Fields.{isDigit, isLeapYear, daysOf, isDate}
 use Rattle.rules.specs.CheckDigits.{weighed, checkDigit, rightAfter, bothRight, isCnpj, isCpf}
 use Rattle.field.specs.Digits.{lastDigits, cnpjRight, cpfRight}
 use Rattle.field.specs.Streaming
-use Rattle.field.specs.BareCases.{barFinds, wordCases}
+use Rattle.field.specs.BareCases.{barFinds, wrongIn, wordCases}
 
 pub word-cases : map (λ c. c .says) wordCases ≡ map (λ c. c .given) wordCases
-unfolding wordCases barFinds bytes kindNumber isDigit isLeapYear daysOf isDate weighed checkDigit rightAfter bothRight isCnpj isCpf
-    lastDigits cnpjRight cpfRight Streaming.emptyFault Streaming.digitsFault Streaming.valueWith
-    Streaming.digitWith Streaming.commaFits Streaming.decimalsWith Streaming.decimalWith
+unfolding wordCases barFinds wrongIn bytes kindNumber isDigit isLeapYear daysOf isDate weighed checkDigit rightAfter bothRight
+    isCnpj isCpf lastDigits cnpjRight cpfRight Streaming.emptyFault Streaming.digitsFault Streaming.valueWith
+    Streaming.digitWith Streaming.wrongAt Streaming.commaFits Streaming.digitFits Streaming.decimalWith
     Streaming.withByte Streaming.fieldAfter Streaming.rightForm Streaming.isExact Streaming.rightSize
     Streaming.contentFault Streaming.numberFault Streaming.textFault Streaming.isTextClass Streaming.faultOf
 word-cases = refl

@@ -1,34 +1,39 @@
--- Of a kind whose bytes are digits: nothing is wrong exactly if all are digits, and the value is theirs, up to the cap.
-use mathlib.Core.Path.{_≡_, _∙_, refl, ap}
-use mathlib.Core.Bool.{Bool, true, false, _&&_}
+-- Of a kind whose bytes are digits: nothing is wrong exactly if all are digits, else the first that is none is known; and the
+-- value is theirs, up to the cap.
+use mathlib.Core.Path.{_≡_, _∙_, refl, sym, ap}
+use mathlib.Core.Bool.{true, _&&_}
 use mathlib.Core.List.{List, [], _∷_}
 use Prim.Native.Nat.{ℕ, suc, _+_, _-_, _*_, _^_, _<_, min}
 use native.Mathlib.Omega.{arith}
 use lib.Dec.{eqb, leb}
 use lib.ListN.{length}
 use borrow.Author.Tests.{leb-true}
-use Rattle.layout.specs.Pick.{pick}
-use Rattle.rules.specs.Fields.{isDigit, allDigits, value}
+use Rattle.rules.specs.Fields.{Form, isDigit, allDigits, value}
+use Rattle.rules.specs.Position.{position}
 use Rattle.field.specs.declared.bytes.Field.{Field}
-use Rattle.field.specs.Streaming.{cap, valueWith, digitWith, withByte, fieldAfter}
+use Rattle.field.specs.Streaming.{cap, wrongAt, valueWith, digitWith, withByte, fieldAfter}
 use Rattle.rules.proofs.TestLaws.{and-left, and-right, same-test}
-
--- nothing is wrong after a byte exactly if the byte is right and nothing was wrong
-pub right-on : (right : Bool) (wrong : ℕ) → eqb (pick right wrong 1) 0 ≡ (right && eqb wrong 0)
-right-on true wrong = refl
-right-on false wrong = refl
+use Rattle.rules.proofs.DecimalLaws.{digits-first}
+use Rattle.field.proofs.WrongLaws.{Marked, marked-on, marked-right, marked-at}
 
 -- past the cap the value stays there
 stays : (v d : ℕ) → min cap (min cap v * 10 + d) ≡ min cap (v * 10 + d)
 stays v d = omega arith
 
 module _ (kind : ℕ) (on : (f : Field) (b : ℕ) → withByte kind f b ≡ digitWith f b) where
-  pub digits-right : (w : List ℕ) → eqb (fieldAfter kind w .wrong) 0 ≡ allDigits w
-  unfolding fieldAfter digitWith allDigits
-  digits-right [] = refl
-  digits-right (b ∷ w) =
-      ap (λ f. eqb (f .wrong) 0) (on (fieldAfter kind w) b) ∙ right-on (isDigit b) (fieldAfter kind w .wrong)
-      ∙ ap (λ t. isDigit b && t) (digits-right w)
+  module _ (form : Form) (begins : (w : List ℕ) → form .begins w ≡ allDigits w) where
+    digits-marked : (w : List ℕ) → Marked kind form w
+    unfolding fieldAfter digitWith
+    digits-marked [] = rw (begins []) (unfold allDigits in refl)
+    digits-marked (b ∷ w) =
+        marked-on kind form (isDigit b) b w (ap (λ f. f .wrong) (on (fieldAfter kind w) b))
+        (begins (b ∷ w) ∙ digits-first b w ∙ ap (λ t. isDigit b && t) (sym (begins w))) (digits-marked w)
+
+    pub digits-right : (w : List ℕ) → eqb (fieldAfter kind w .wrong) 0 ≡ allDigits w
+    digits-right w = marked-right kind form w (digits-marked w) ∙ begins w
+
+    pub digits-position : (w : List ℕ) → wrongAt (fieldAfter kind w) ≡ position form w
+    digits-position w = marked-at kind form w (digits-marked w)
 
   pub digits-value : (w : List ℕ) → fieldAfter kind w .value ≡ min cap (value w)
   unfolding fieldAfter digitWith valueWith value

@@ -1,4 +1,4 @@
--- What the bar finds, kind by kind, is what rules 10 to 13 and 24 say of the word.
+-- What the bar finds, kind by kind, is what rules 10 to 13 and 24 say of the word; and the position of rule 10.
 use mathlib.Core.Path.{_≡_, _∙_, refl, sym, ap}
 use mathlib.Core.Bool.{Bool, true, false, not, _&&_, _||_}
 use mathlib.Core.List.{List, [], _∷_, reverse}
@@ -15,20 +15,21 @@ use Rattle.layout.specs.Packed.{kindNumber, sizeUnit, cClass, nClass, nAnyClass
 use Rattle.layout.specs.Packed.{dateClass, cnpjClass, cpfClass, lfpdClass, brasilClass, opensClass, countClass}
 use Rattle.rules.specs.Bytes.{empty}
 use Rattle.rules.specs.Fields.{isDigit, allDigits, value, isDecimal, isDate, sameBytes, isText, formOf, states}
+use Rattle.rules.specs.Position.{position}
 use Rattle.rules.specs.CheckDigits.{digitsOf, isCnpj, isCpf}
 use Rattle.field.specs.declared.bytes.Field.{Field}
 use Rattle.field.specs.Digits.{lastDigits, cnpjRight, cpfRight}
-use Rattle.field.specs.Streaming.{cap, digitWith, textWith, decimalWith, withByte}
+use Rattle.field.specs.Streaming.{cap, wrongAt, digitWith, textWith, decimalWith, withByte}
 use Rattle.field.specs.Streaming.{fieldAfter, emptyFault, rightForm, isExact, rightSize, digitsFault, contentFault}
 use Rattle.field.specs.Streaming.{numberFault, textFault, isTextClass, faultOf}
 use Rattle.field.specs.Ruled.{ruled}
-use Rattle.rules.proofs.TestLaws.{split, and-left}
+use Rattle.rules.proofs.TestLaws.{split, both, and-left}
 use Rattle.field.proofs.Picks.{and-first}
 use Rattle.field.proofs.LengthLaws.{length-is}
-use Rattle.field.proofs.DigitLaws.{digits-right, digits-value, value-below, capped-is}
+use Rattle.field.proofs.DigitLaws.{digits-right, digits-position, digits-value, value-below, capped-is}
 use Rattle.field.proofs.CheckDigitLaws.{digits-are}
 use Rattle.field.proofs.TextLaws.{text-is}
-use Rattle.field.proofs.DecimalLaws.{decimals-is}
+use Rattle.field.proofs.DecimalLaws.{decimals-is, decimals-position}
 
 -- the bar after a word of this kind finds what the rules say
 abbrev Agrees : Kind → ℕ → List ℕ → Type 0
@@ -96,17 +97,18 @@ in-turn true true x y h = h refl refl
 in-turn true false x y h = refl
 in-turn false size x y h = refl
 
-number-bar : (c n : ℕ) (f : Field) (due l v : ℕ) (form : Bool) → rightForm c n f ≡ form → f .length ≡ suc l → f .value ≡ v
+number-bar : (c n : ℕ) (f : Field) (due l v : ℕ) (form : Bool) → rightForm c f ≡ form → f .length ≡ suc l → f .value ≡ v
     → numberFault c n f due ≡ pick form (pick (rightSize c n (suc l)) (contentFault c v due) 11) 10
 unfolding numberFault
 number-bar c n f due l v form p q r = rw (p, q, r, ne-eqb (suc l) 0 (λ e. omega arith))
 
 module _ (kind c n : ℕ) (on : (f : Field) (b : ℕ) → withByte kind f b ≡ digitWith f b) (other : eqb c decimalsClass ≡ false) where
-  digits-form : (w : List ℕ) → rightForm c n (fieldAfter kind w) ≡ allDigits w
-  unfolding rightForm
+  -- (`digits-right` is said of a form; any form of digits will do)
+  digits-form : (w : List ℕ) → rightForm c (fieldAfter kind w) ≡ allDigits w
+  unfolding rightForm formOf
   digits-form w =
       let right = eqb (fieldAfter kind w .wrong) 0 in
-      rw other (sym (and-first right right true refl refl) ∙ digits-right kind on w)
+      rw other (sym (and-first right right true refl refl) ∙ digits-right kind on (formOf N-) (λ w. refl) w)
 
   digits-bar : (due b : ℕ) (w : List ℕ) → numberFault c n (fieldAfter kind (b ∷ w)) due
       ≡ pick (allDigits (b ∷ w)) (pick (rightSize c n (suc (length w))) (contentFault c (min cap (value (b ∷ w))) due) 11) 10
@@ -133,18 +135,18 @@ N--bar due [] = refl
 N--bar due (b ∷ w) =
     digits-bar (kindNumber N-) nAnyClass 0 (λ f b. refl) refl due b w ∙ in-turn (allDigits (b ∷ w)) true 0 0 (λ p q. refl)
 
-decimals-on : (d : ℕ) (f : Field) (b : ℕ) → withByte (kindNumber (decimals d)) f b ≡ decimalWith f b
+decimals-on : (d : ℕ) (f : Field) (b : ℕ) → withByte (kindNumber (decimals d)) f b ≡ decimalWith d f b
 unfolding kindNumber withByte
-decimals-on d f b = rw (class-of decimalsClass d (omega arith))
+decimals-on d f b = rw (class-of decimalsClass d (omega arith), size-of decimalsClass d (omega arith))
 
-decimals-bar : (d due : ℕ) (w : List ℕ) → length w ≤ cap → Agrees (decimals d) due w
+decimals-bar : (d due : ℕ) (w : List ℕ) → Agrees (decimals d) due w
 unfolding kindNumber isTextClass fieldAfter numberFault emptyFault rightForm rightSize isExact contentFault ruled formOf empty
-decimals-bar d due [] h = fault-at decimalsClass d (fieldAfter (kindNumber (decimals d)) []) due (omega arith)
-decimals-bar d due (b ∷ w) h =
+decimals-bar d due [] = fault-at decimalsClass d (fieldAfter (kindNumber (decimals d)) []) due (omega arith)
+decimals-bar d due (b ∷ w) =
     let f = fieldAfter (kindNumber (decimals d)) (b ∷ w) in
     fault-at decimalsClass d f due (omega arith)
     ∙ number-bar decimalsClass d f due (length w) (f .value) (isDecimal d (b ∷ w))
-    (decimals-is (kindNumber (decimals d)) (decimals-on d) d (b ∷ w) h)
+    (decimals-is (kindNumber (decimals d)) d (decimals-on d) (b ∷ w))
     (length-is (kindNumber (decimals d)) (b ∷ w)) refl
     ∙ in-turn (isDecimal d (b ∷ w)) true 0 0 (λ p q. refl)
 
@@ -226,22 +228,40 @@ count-bar due (b ∷ w) h =
     ∙ in-turn (allDigits (b ∷ w)) true (pick (eqb (min cap v) due) 0 13) (pick (not (eqb v due)) 13 0)
     (λ p q. rw (capped-is v due h) (turned (eqb v due) 13))
 
--- at every kind; a word longer than the cap could have more decimals than are counted
-pub fault-is : (k : Kind) (due : ℕ) (w : List ℕ) → due < cap → length w ≤ cap
+-- at every kind
+pub fault-is : (k : Kind) (due : ℕ) (w : List ℕ) → due < cap
     → faultOf (kindNumber k) (fieldAfter (kindNumber k) w) due ≡ ruled (formOf k) due w
-fault-is codeField due w h l = code-bar due w
-fault-is (C s) due w h l = C-bar s due w
-fault-is (N s) due w h l = N-bar s due w
-fault-is N- due w h l = N--bar due w
-fault-is (decimals d) due w h l = decimals-bar d due w l
-fault-is date due w h l = date-bar due w
-fault-is cnpj due w h l = cnpj-bar due w
-fault-is cpf due w h l = cpf-bar due w
-fault-is lfpd due w h l = lfpd-bar due w
-fault-is brasil due w h l = brasil-bar due w
-fault-is opens due w h l = opens-bar due w
-fault-is count due w h l = count-bar due w h
-fault-is noField due w h l = no-field-bar due w
+fault-is codeField due w h = code-bar due w
+fault-is (C s) due w h = C-bar s due w
+fault-is (N s) due w h = N-bar s due w
+fault-is N- due w h = N--bar due w
+fault-is (decimals d) due w h = decimals-bar d due w
+fault-is date due w h = date-bar due w
+fault-is cnpj due w h = cnpj-bar due w
+fault-is cpf due w h = cpf-bar due w
+fault-is lfpd due w h = lfpd-bar due w
+fault-is brasil due w h = brasil-bar due w
+fault-is opens due w h = opens-bar due w
+fault-is count due w h = count-bar due w h
+fault-is noField due w h = no-field-bar due w
+
+-- 02, request e: where rule 10 is broken, the kept position is that of the first byte that no field passing it could have there
+pub position-is : (k : Kind) (w : List ℕ) → formOf k .characters w ≡ false
+    → wrongAt (fieldAfter (kindNumber k) w) ≡ position (formOf k) w
+unfolding formOf withByte kindNumber
+position-is codeField w e = both refl e
+position-is (C s) w e = both refl e
+position-is (N s) w e = digits-position (kindNumber (N s)) (N-on s) (formOf (N s)) (λ w. refl) w
+position-is N- w e = digits-position (kindNumber N-) (λ f b. refl) (formOf N-) (λ w. refl) w
+position-is (decimals d) w e = decimals-position (kindNumber (decimals d)) d (decimals-on d) w
+position-is date w e = digits-position (kindNumber date) (λ f b. refl) (formOf date) (λ w. refl) w
+position-is cnpj w e = digits-position (kindNumber cnpj) (λ f b. refl) (formOf cnpj) (λ w. refl) w
+position-is cpf w e = digits-position (kindNumber cpf) (λ f b. refl) (formOf cpf) (λ w. refl) w
+position-is lfpd w e = both refl e
+position-is brasil w e = both refl e
+position-is opens w e = digits-position (kindNumber opens) (λ f b. refl) (formOf opens) (λ w. refl) w
+position-is count w e = digits-position (kindNumber count) (λ f b. refl) (formOf count) (λ w. refl) w
+position-is noField w e = both refl e
 
 -- what is due is asked of counts alone
 pub countless-fault : (kind : ℕ) (f : Field) (m n : ℕ) → eqb (kind % sizeUnit) countClass ≡ false

@@ -2,7 +2,7 @@
 use mathlib.Core.Path.{_≡_, _∙_, refl, ap}
 use mathlib.Core.Bool.{Bool, true, false}
 use mathlib.Core.List.{List, [], _∷_}
-use Prim.Native.Nat.{ℕ, suc, _+_, _*_, _%_, _<_, _≤_}
+use Prim.Native.Nat.{ℕ, suc, _+_, _*_, _/_, _%_, _<_, _≤_}
 use native.Mathlib.Nat.{mod-lt}
 use native.Mathlib.Numerals.{add-one}
 use native.Mathlib.Omega.{arith}
@@ -11,12 +11,12 @@ use lib.ListN.{length}
 use Rattle.layout.specs.Pick.{pick}
 use Rattle.layout.specs.Text.{codeNumber}
 use Rattle.layout.specs.Kind.{codeField}
-use Rattle.layout.specs.Packed.{kindNumber, codeClass, cClass, decimalsClass, sizeUnit}
+use Rattle.layout.specs.Packed.{kindNumber, codeClass, cClass, decimalsClass, sizeUnit, mostKind}
 use Rattle.rules.specs.Fields.{isDigit}
 use Rattle.rules.specs.Rules.{byteLimit}
 use Rattle.field.specs.declared.bytes.Field.{Field}
-use Rattle.field.specs.Streaming.{FieldFit, cap, longer, wrongWith, codeWith, valueWith, digitWith, matches, textWith}
-use Rattle.field.specs.Streaming.{commaFits, decimalsWith, decimalWith, isFixedClass, fixedText, withByte}
+use Rattle.field.specs.Streaming.{FieldFit, cap, longer, wrongAt, wrongWith, codeWith, valueWith, digitWith, matches}
+use Rattle.field.specs.Streaming.{textWith, commaFits, digitFits, decimalWith, isFixedClass, fixedText, withByte}
 use Rattle.field.specs.Streaming.{fieldAfter}
 
 -- what holds of both choices holds of the choice
@@ -29,7 +29,7 @@ module _ (P : Field → Type 0) (kind : ℕ) (f : Field) (b : ℕ) where
   by-class :
       P (longer f (f .wrong) (f .value)) →
       P (codeWith f b) →
-      P (decimalWith f b) →
+      P (decimalWith (kind / sizeUnit) f b) →
       ((text : List ℕ) → P (textWith text f b)) →
       P (digitWith f b) →
       P (withByte kind f b)
@@ -45,7 +45,7 @@ pub one-longer : (kind : ℕ) (f : Field) (b : ℕ) → withByte kind f b .lengt
 unfolding textWith decimalWith digitWith
 one-longer kind f b =
     let P : Field → Type 0 = λ g. g .length ≡ f .length + 1 in
-    by-class P kind f b refl refl (either P (isDigit b) refl refl) (λ text. refl) refl
+    by-class P kind f b refl refl (either P (digitFits f b) refl (either P (commaFits f b) refl refl)) (λ text. refl) refl
 
 pub length-is : (kind : ℕ) (w : List ℕ) → fieldAfter kind w .length ≡ length w
 unfolding fieldAfter
@@ -59,20 +59,28 @@ code-is [] = refl
 code-is (b ∷ w) = ap (λ v. v % 16777216 * 256 + b) (code-is w)
 
 -- one more byte keeps a field within its ranges
-fit-longer : (f : Field) → f .length ≤ byteLimit → (wrong value : ℕ) → wrong ≤ 1 → value ≤ cap → FieldFit (longer f wrong value)
+fit-longer : (f : Field) → f .length ≤ byteLimit → (wrong value : ℕ) → wrong ≤ f .length + 1 → value ≤ cap
+    → FieldFit (longer f wrong value)
 fit-longer f h wrong value w v = record { length = omega arith; wrong = w; value = v }
 
-marked-le : (right : Bool) (f : Field) → f .wrong ≤ 1 → wrongWith right f ≤ 1
-marked-le right f h = either (λ w. w ≤ 1) right h (omega arith)
+pub wrong-at-le : (f : Field) → f .wrong ≤ f .length → wrongAt f ≤ f .length + 1
+unfolding wrongAt
+wrong-at-le f h = either (λ w. w ≤ f .length + 1) (eqb (f .wrong) 0) (omega arith) (omega arith)
 
-pub fit-after : {f : Field} {b : ℕ} → FieldFit f → b < 256 → f .length ≤ byteLimit → (kind : ℕ) → FieldFit (withByte kind f b)
-unfolding textWith decimalWith digitWith valueWith decimalsWith
-fit-after {f} {b} fit hb h kind =
+marked-le : (right : Bool) (f : Field) → f .wrong ≤ f .length → wrongWith right f ≤ f .length + 1
+marked-le right f h = either (λ w. w ≤ f .length + 1) right (omega arith) (wrong-at-le f h)
+
+pub fit-after : {f : Field} {b : ℕ} → FieldFit f → b < 256 → f .length ≤ byteLimit → (kind : ℕ) → kind ≤ mostKind
+    → FieldFit (withByte kind f b)
+unfolding textWith decimalWith digitWith valueWith
+fit-after {f} {b} fit hb h kind hk =
     by-class FieldFit kind f b
-    (fit-longer f h _ _ (fit .wrong) (fit .value))
-    (fit-longer f h _ _ (fit .wrong) (omega (arith, mod-lt (f .value) {m = 16777216} (omega arith))))
-    (either FieldFit (isDigit b)
-    (fit-longer f h _ _ (fit .wrong) (either (λ v. v ≤ cap) (eqb (f .value) 0) (omega arith) (omega arith)))
-    (fit-longer f h _ _ (marked-le (commaFits f b) f (fit .wrong)) (omega arith)))
+    (fit-longer f h _ _ (omega (arith, fit .wrong)) (fit .value))
+    (fit-longer f h _ _ (omega (arith, fit .wrong)) (omega (arith, mod-lt (f .value) {m = 16777216} (omega arith))))
+    (either FieldFit (digitFits f b)
+    (fit-longer f h _ _ (omega (arith, fit .wrong)) (omega (arith, fit .value)))
+    (either FieldFit (commaFits f b)
+    (fit-longer f h _ _ (omega (arith, fit .wrong)) (omega arith))
+    (fit-longer f h _ _ (wrong-at-le f (fit .wrong)) (fit .value))))
     (λ text. fit-longer f h _ _ (marked-le (matches text (f .length) b) f (fit .wrong)) (fit .value))
     (fit-longer f h _ _ (marked-le (isDigit b) f (fit .wrong)) (omega arith))

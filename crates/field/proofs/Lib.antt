@@ -1,5 +1,6 @@
 pub mod Picks
 pub mod LengthLaws
+pub mod WrongLaws
 pub mod DigitLaws
 pub mod TextLaws
 pub mod DecimalLaws

@@ -13,7 +13,7 @@ use Rattle.field.specs.declared.bytes.Field.{Field}
 use Rattle.field.specs.Streaming.{matches, textWith, isFixed, withByte, fieldAfter}
 use Rattle.rules.proofs.TestLaws.{and-left, and-right}
 use Rattle.field.proofs.LengthLaws.{length-is}
-use Rattle.field.proofs.DigitLaws.{right-on}
+use Rattle.field.proofs.WrongLaws.{right-on}
 
 -- each byte so far is the text's byte at its place
 unfoldable fits : List ℕ → List ℕ → Bool
@@ -79,7 +79,7 @@ module _ (kind : ℕ) (text : List ℕ) (on : (f : Field) (b : ℕ) → withByte
   text-right [] = refl
   text-right (b ∷ w) =
       ap (λ f. eqb (f .wrong) 0) (on (fieldAfter kind w) b)
-      ∙ right-on (matches text (fieldAfter kind w .length) b) (fieldAfter kind w .wrong)
+      ∙ right-on (matches text (fieldAfter kind w .length) b) (fieldAfter kind w)
       ∙ ap₂ (λ n t. matches text n b && t) (length-is kind w) (text-right w)
 
   pub text-is : (w : List ℕ) → isFixed (fieldAfter kind w) (length text) ≡ sameBytes w (reverse text)

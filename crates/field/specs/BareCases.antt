@@ -1,4 +1,5 @@
--- 01, "Both sides of each rule", and 02, request h: words, and what the bar after them finds once they have streamed through.
+-- 01, "Both sides of each rule", and 02, requests h and e: words, and what the bar after them finds once they have streamed
+-- through, with the position of their first wrong byte.
 use mathlib.Core.List.{List, [], _∷_, reverse}
 use Prim.Native.Nat.{ℕ}
 use Prim.Native.String.{String}
@@ -7,7 +8,7 @@ use Rattle.layout.specs.Text.{bytes}
 use Rattle.layout.specs.Kind.{Kind, C-, decimals, date, cnpj, cpf, count}
 use Rattle.layout.specs.Packed.{kindNumber}
 use Rattle.rules.specs.BareCases.{Bare, bare}
-use Rattle.field.specs.Streaming.{fieldAfter, faultOf}
+use Rattle.field.specs.Streaming.{wrongAt, fieldAfter, faultOf}
 
 -- the rule that a word of this kind breaks, where a count must state `due`; 0 where it breaks none
 unfoldable pub barFinds : Kind → ℕ → List ℕ → ℕ
@@ -15,6 +16,10 @@ barFinds k due word = faultOf (kindNumber k) (fieldAfter (kindNumber k) word) du
 
 abbrev typed : String → List ℕ
 typed text = reverse (bytes text)
+
+-- 02, request e: the position of its first wrong byte, where it has one or is too short
+unfoldable pub wrongIn : Kind → List ℕ → ℕ
+wrongIn k word = wrongAt (fieldAfter (kindNumber k) word)
 
 unfoldable pub wordCases : List Bare
 wordCases =
@@ -32,6 +37,17 @@ wordCases =
     -- one comma, not two
     bare 0 (barFinds (decimals 2) 0 (typed "1,50")) ∷
     bare 10 (barFinds (decimals 2) 0 (typed "1,,50")) ∷
+    -- 02, request e: too many decimals, too few, no digit before the comma, a letter, two commas, no comma, two letters; a date;
+    -- a count
+    bare 6 (wrongIn (decimals 2) (typed "12,555")) ∷
+    bare 5 (wrongIn (decimals 2) (typed "12,5")) ∷
+    bare 1 (wrongIn (decimals 2) (typed ",50")) ∷
+    bare 2 (wrongIn (decimals 2) (typed "1x")) ∷
+    bare 3 (wrongIn (decimals 2) (typed "1,,")) ∷
+    bare 3 (wrongIn (decimals 2) (typed "12")) ∷
+    bare 2 (wrongIn (decimals 2) (typed "1x,5x")) ∷
+    bare 2 (wrongIn date (typed "9x012012")) ∷
+    bare 2 (wrongIn count (typed "3x")) ∷
     -- 29022012: a date; 29022011: 12
     bare 0 (barFinds date 0 (typed "29022012")) ∷
     bare 12 (barFinds date 0 (typed "29022011")) ∷

@@ -21,10 +21,10 @@ cap = 10 ^ 14
 -- what may be asked: the stored numbers' ranges
 pub record FieldFit (f : Field) : Type 0 where
   pub length : f .length ≤ byteLimit + 1
-  pub wrong : f .wrong ≤ 1
+  pub wrong : f .wrong ≤ f .length
   pub value : f .value ≤ cap
 
--- before the first byte
+-- before the first byte; `wrong` is the position of the first wrong byte, 0 while there is none
 abbrev pub emptyField : Field
 emptyField = record { length = 0; wrong = 0; value = 0 }
 
@@ -32,8 +32,12 @@ emptyField = record { length = 0; wrong = 0; value = 0 }
 abbrev pub longer : Field → ℕ → ℕ → Field
 longer f wrong value = record { length = f .length + 1; wrong = wrong; value = value }
 
+-- the position of the first wrong byte, if the next one is wrong or missing: its own, unless one was wrong before
+unfoldable pub wrongAt : Field → ℕ
+wrongAt f = pick (eqb (f .wrong) 0) (f .length + 1) (f .wrong)
+
 abbrev pub wrongWith : Bool → Field → ℕ
-wrongWith right f = pick right (f .wrong) 1
+wrongWith right f = pick right (f .wrong) (wrongAt f)
 
 abbrev pub codeWith : Field → ℕ → Field
 codeWith f b = longer f (f .wrong) (f .value % 16777216 * 256 + b)
@@ -50,17 +54,18 @@ matches text at b = eqb (getD text at 256) b
 unfoldable pub textWith : List ℕ → Field → ℕ → Field
 textWith text f b = longer f (wrongWith (matches text (f .length) b) f) (f .value)
 
--- a comma stands once, after one digit or more
+-- Of a number with decimals the value is 0 before the comma, and then one more than the number of decimals still to come.
+-- A comma stands once, after one digit or more; a digit unless all decimals have come.
 unfoldable pub commaFits : Field → ℕ → Bool
 commaFits f b = eqb b comma && eqb (f .value) 0 && ltb 0 (f .length)
 
--- of a number with decimals the value is 0 before the comma, and then one more than the number of decimals so far
-unfoldable pub decimalsWith : ℕ → ℕ
-decimalsWith v = pick (eqb v 0) 0 (min cap (v + 1))
+unfoldable pub digitFits : Field → ℕ → Bool
+digitFits f b = isDigit b && not (eqb (f .value) 1)
 
-unfoldable pub decimalWith : Field → ℕ → Field
-decimalWith f b =
-    pick (isDigit b) (longer f (f .wrong) (decimalsWith (f .value))) (longer f (wrongWith (commaFits f b) f) 1)
+unfoldable pub decimalWith : ℕ → Field → ℕ → Field
+decimalWith d f b =
+    pick (digitFits f b) (longer f (f .wrong) (f .value - 1))
+    (pick (commaFits f b) (longer f (f .wrong) (d + 1)) (longer f (wrongAt f) (f .value)))
 
 -- the classes of the fixed texts, and the text of each
 abbrev pub isFixedClass : ℕ → Bool
@@ -75,7 +80,7 @@ withByte kind f b =
     let class = kind % sizeUnit in
     pick (eqb class cClass) (longer f (f .wrong) (f .value))
     (pick (eqb class codeClass) (codeWith f b)
-    (pick (eqb class decimalsClass) (decimalWith f b)
+    (pick (eqb class decimalsClass) (decimalWith (kind / sizeUnit) f b)
     (pick (isFixedClass class) (textWith (fixedText class) f b) (digitWith f b))))
 
 -- the field of a kind after the bytes of a word, the latest first
@@ -87,8 +92,8 @@ fieldAfter kind (b ∷ w) = withByte kind (fieldAfter kind w) b
 unfoldable pub emptyFault : ℕ → ℕ
 emptyFault class = pick (eqb class opensClass) 12 (pick (eqb class countClass) 13 0)
 
-unfoldable pub rightForm : ℕ → ℕ → Field → Bool
-rightForm class size f = eqb (f .wrong) 0 && (not (eqb class decimalsClass) || eqb (f .value) (size + 1))
+unfoldable pub rightForm : ℕ → Field → Bool
+rightForm class f = eqb (f .wrong) 0 && (not (eqb class decimalsClass) || eqb (f .value) 1)
 
 -- the numbers whose size is asked
 unfoldable pub isExact : ℕ → Bool
@@ -113,7 +118,7 @@ contentFault class value due =
 unfoldable pub numberFault : ℕ → ℕ → Field → ℕ → ℕ
 numberFault class size f due =
     pick (eqb (f .length) 0) (emptyFault class)
-    (pick (rightForm class size f) (pick (rightSize class size (f .length)) (contentFault class (f .value) due) 11) 10)
+    (pick (rightForm class f) (pick (rightSize class size (f .length)) (contentFault class (f .value) due) 11) 10)
 
 unfoldable pub isFixed : Field → ℕ → Bool
 isFixed f size = eqb (f .wrong) 0 && eqb (f .length) size

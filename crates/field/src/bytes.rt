@@ -1,9 +1,10 @@
 // What is kept of a field's bytes.
 ghost use mathlib.Core.Path.{_≡_};
-ghost use Prim.Native.Nat.{_≤_};
+ghost use Prim.Native.Nat.{_-_, _/_, _≤_};
+ghost use Rattle.layout.specs.Packed.{sizeUnit};
 ghost use Rattle.rules.specs.Fields.{isDigit};
-ghost use Rattle.field.specs.Streaming.{FieldFit, cap, emptyField, codeWith, valueWith, digitWith, matches, textWith};
-ghost use Rattle.field.specs.Streaming.{commaFits, decimalsWith, decimalWith, isFixedClass, fixedText, withByte};
+ghost use Rattle.field.specs.Streaming.{FieldFit, cap, emptyField, wrongAt, codeWith, valueWith, digitWith, matches};
+ghost use Rattle.field.specs.Streaming.{textWith, commaFits, digitFits, decimalWith, isFixedClass, fixedText, withByte};
 
 // The classes of kinds: a kind's number is its class plus SIZE_UNIT times its size.
 pub const SIZE_UNIT: u64 = layout::kinds::SIZE_UNIT as u64;
@@ -32,10 +33,13 @@ pub const CLASS_CPF: u64 = layout::kinds::CLASS_CPF as u64;
 
 const COMMA: u8 = 44;
 
+// Of a number with decimals the value is 0 before the comma, and then this, and one more for each decimal still to come.
+pub const NONE_TO_COME: u64 = 1;
+
 // A value is kept up to this, just above that of 14 digits, those of a CNPJ, and well above the largest number of lines.
 pub const CAP: u64 = 100_000_000_000_000;
 
-// How many bytes, whether one of them is wrong, and the value, by the field's kind.
+// How many bytes, the position of the first wrong one, from 1, or 0, and the value, by the field's kind.
 pub struct Field {
     pub length: u64,
     pub wrong: u64,
@@ -51,6 +55,17 @@ pub fn start() -> Field
         wrong: 0,
         value: 0,
     }
+}
+
+// The position of the first wrong byte, if the next one is wrong or missing: its own, unless one was wrong before.
+pub fn wrong_at(f: Field) -> u64
+    requires { ⌜ FieldFit f ⌝ }
+    ensures { λ r. ⌜ r ≡ wrongAt f ⌝ }
+{
+    if f.wrong == 0 {
+        return f.length + 1;
+    }
+    f.wrong
 }
 
 fn is_digit(b: u8) -> bool
@@ -97,7 +112,7 @@ fn digit_with(f: Field, b: u8) -> Field
     }
     Field {
         length: f.length + 1,
-        wrong: 1,
+        wrong: wrong_at(f),
         value,
     }
 }
@@ -126,7 +141,7 @@ fn text_with(text: &[u8], f: Field, b: u8) -> Field
     }
     Field {
         length: f.length + 1,
-        wrong: 1,
+        wrong: wrong_at(f),
         value: f.value,
     }
 }
@@ -155,39 +170,49 @@ fn comma_fits(f: Field, b: u8) -> bool
     0 < f.length
 }
 
-// One more digit of a number with decimals: none of them is a decimal before the comma.
-fn decimals_with(v: u64) -> u64
-    ensures { λ r. ⌜ r ≡ decimalsWith v ⌝ }
+// A digit stands unless all decimals have come.
+fn digit_fits(f: Field, b: u8) -> bool
+    ensures { λ r. ⌜ r ≡ digitFits f b ⌝ }
+{
+    if is_digit(b) {
+        return f.value != NONE_TO_COME;
+    }
+    false
+}
+
+// One decimal fewer is to come; before the comma the value stays 0.
+fn one_less(v: u64) -> u64
+    ensures { λ r. ⌜ r ≡ v - 1 ⌝ }
 {
     if v == 0 {
         return 0;
     }
-    if v < CAP { v + 1 } else { CAP }
+    v - 1
 }
 
-fn decimal_with(f: Field, b: u8) -> Field
+fn decimal_with(kind: u64, f: Field, b: u8) -> Field
     requires { ⌜ FieldFit f ⌝ }
-    ensures { λ r. ⌜ r ≡ decimalWith f b ⌝ }
+    ensures { λ r. ⌜ r ≡ decimalWith (kind / sizeUnit) f b ⌝ }
 {
     let length = f.length + 1;
-    if is_digit(b) {
+    if digit_fits(f, b) {
         return Field {
             length,
             wrong: f.wrong,
-            value: decimals_with(f.value),
+            value: one_less(f.value),
         };
     }
     if comma_fits(f, b) {
         return Field {
             length,
             wrong: f.wrong,
-            value: 1,
+            value: kind / SIZE_UNIT + NONE_TO_COME,
         };
     }
     Field {
         length,
-        wrong: 1,
-        value: 1,
+        wrong: wrong_at(f),
+        value: f.value,
     }
 }
 
@@ -215,7 +240,7 @@ pub fn with_byte(kind: u64, f: Field, b: u8) -> Field
         return code_with(f, b);
     }
     if class == CLASS_DECIMALS {
-        return decimal_with(f, b);
+        return decimal_with(kind, f, b);
     }
     if is_fixed_class(class) {
         return fixed_with(class, f, b);

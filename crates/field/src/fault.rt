@@ -11,6 +11,7 @@ use crate::bytes::CLASS_DECIMALS;
 use crate::bytes::CLASS_N_ANY;
 use crate::bytes::CLASS_OPENS;
 use crate::bytes::Field;
+use crate::bytes::NONE_TO_COME;
 use crate::bytes::SIZE_UNIT;
 use crate::bytes::is_fixed_class;
 use crate::check_digits::is_cnpj;
@@ -40,8 +41,8 @@ fn empty_fault(class: u64) -> u64
     0
 }
 
-fn right_form(class: u64, size: u64, f: Field) -> bool
-    ensures { λ r. ⌜ r ≡ rightForm class size f ⌝ }
+fn right_form(class: u64, f: Field) -> bool
+    ensures { λ r. ⌜ r ≡ rightForm class f ⌝ }
 {
     if f.wrong != 0 {
         return false;
@@ -49,10 +50,7 @@ fn right_form(class: u64, size: u64, f: Field) -> bool
     if class != CLASS_DECIMALS {
         return true;
     }
-    if f.value == 0 {
-        return false;
-    }
-    f.value - 1 == size
+    f.value == NONE_TO_COME
 }
 
 // The numbers whose size is asked.
@@ -115,7 +113,7 @@ fn number_fault(class: u64, size: u64, f: Field, due: u64) -> u64
     if f.length == 0 {
         return empty_fault(class);
     }
-    if !right_form(class, size, f) {
+    if !right_form(class, f) {
         return WRONG_CHARACTERS;
     }
     if !right_size(class, size, f.length) {

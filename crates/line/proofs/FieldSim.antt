@@ -17,7 +17,7 @@ use Rattle.rules.specs.Fields.{Form, formOf, states}
 use Rattle.rules.specs.Rules.{Fault, clear, breaks, formAtHand}
 use Rattle.rules.proofs.TestLaws.{split, pick-le}
 use Rattle.layout.proofs.RoleLaws.{opening-kind}
-use Rattle.rules.proofs.ByteLaws.{bars-lines, word-bound, rows-length}
+use Rattle.rules.proofs.ByteLaws.{bars-lines, rows-length}
 use Rattle.rules.proofs.FaultLaws.{fieldFault}
 use Rattle.rules.proofs.StandLaws.{stand-closing}
 use Rattle.rules.proofs.BlockLaws.{since, since-le, due-9999, due-since}
@@ -71,7 +71,7 @@ module _ (seen : List ℕ) (late : 2 ≤ bars seen) (s : Sound seen) where
   pub found-is : faultOf (hotOf seen .kind) (hotOf seen .field) (dueOf (hotOf seen)) ≡ found seen
   found-is =
       let k = kind (rowAtHand seen) (bars seen) in
-      fault-is k (dueOf (hotOf seen)) (word seen) due-small (omega (arith, word-bound seen, s .short))
+      fault-is k (dueOf (hotOf seen)) (word seen) due-small
       ∙ ruled-due (formOf k) (dueOf (hotOf seen)) (due (rowAtHand seen) (rows seen)) (word seen) due-is
 
 -- an opening's field 2 that its bar passes is 0 where its value is

@@ -51,7 +51,7 @@ pub record HotFit (h : Hot) : Type 0 where
   pub fields : h .fields ≤ mostFields
   pub kind : h .kind ≤ mostKind
   pub length : h .field .length ≤ h .bytes
-  pub wrong : h .field .wrong ≤ 1
+  pub wrong : h .field .wrong ≤ h .field .length
   pub value : h .field .value ≤ cap
 
 -- the tables that are handed on

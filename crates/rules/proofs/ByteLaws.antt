@@ -140,15 +140,9 @@ cut-size s (b ∷ bs) = go (eqb b s) (cut-size s bs)
     go false h = omega arith
 
 module _ (seen : List ℕ) where
-  all-size : bars seen + length (word seen) + length (lines seen) ≤ length seen
-  unfolding lines bars word lineAtHand
-  all-size = omega (arith, cut-size LF seen, cut-size bar (cut LF seen .hand))
-
   pub bars-lines : bars seen + length (lines seen) ≤ length seen
-  bars-lines = omega (arith, all-size)
-
-  pub word-bound : length (word seen) ≤ length seen
-  word-bound = omega (arith, all-size)
+  unfolding lines bars lineAtHand
+  bars-lines = omega (arith, cut-size LF seen, cut-size bar (cut LF seen .hand))
 
   pub rows-length : length (rows seen) ≡ length (lines seen)
   unfolding rows

@@ -65,7 +65,7 @@ fit-of h e =
     let f = leb (h .fields) mostFields in
     let k = leb (h .kind) mostKind in
     let l = leb (h .field .length) (h .bytes) in
-    let w = leb (h .field .wrong) 1 in
+    let w = leb (h .field .wrong) (h .field .length) in
     let v = leb (h .field .value) cap in
     let line = and-right (a && b && c && d && s) (lineRanged h) e in
     let l₆ = and-left (p && r && f && k && l && w) v line in
@@ -102,7 +102,7 @@ hot-ranged h f =
       le-leb (h .fields) mostFields (f .fields),
       le-leb (h .kind) mostKind (f .kind),
       le-leb (h .field .length) (h .bytes) (f .length),
-      le-leb (h .field .wrong) 1 (f .wrong),
+      le-leb (h .field .wrong) (h .field .length) (f .wrong),
       le-leb (h .field .value) cap (f .value),
     )
 

@@ -69,7 +69,7 @@ pick-leads h false a b p q = q
 
 -- one more byte is judged
 pub judged-fit : (h : Hot) → HotFit h → h .bytes ≤ byteLimit
-    → (g : Field) → g .length ≤ h .bytes + 1 → g .wrong ≤ 1 → g .value ≤ cap → HotFit (judgedWith h g)
+    → (g : Field) → g .length ≤ h .bytes + 1 → g .wrong ≤ g .length → g .value ≤ cap → HotFit (judgedWith h g)
 judged-fit h f limit g length wrong value =
     record {
       bytes = omega arith;
@@ -119,7 +119,7 @@ module _ (h : Hot) (f : HotFit h) (small : h .bytes < byteLimit) where
   grown-leads : (b : ℕ) → b < 256 → Leads h (Next (grownOf h b))
   grown-leads b byte =
       let fit : FieldFit (h .field) = record { length = omega (arith, f .length); wrong = f .wrong; value = f .value } in
-      let next = fit-after {f = h .field} {b = b} fit byte (omega (arith, f .length)) (h .kind) in
+      let next = fit-after {f = h .field} {b = b} fit byte (omega (arith, f .length)) (h .kind) (f .kind) in
       let long = one-longer (h .kind) (h .field) b in
       goes {n = grownOf h b} (judged-fit h f (omega arith) _ (omega (arith, f .length)) (next .wrong) (next .value)) refl small
 

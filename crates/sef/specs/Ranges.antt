@@ -23,7 +23,7 @@ withinTo m xs (suc k) = leb (getD xs k 0) m && withinTo m xs k
 unfoldable pub lineRanged : Hot → Bool
 lineRanged h =
     leb (h .bars) mostBars && leb (h .row) rowCount && leb (h .fields) mostFields && leb (h .kind) mostKind
-    && leb (h .field .length) (h .bytes) && leb (h .field .wrong) 1 && leb (h .field .value) cap
+    && leb (h .field .length) (h .bytes) && leb (h .field .wrong) (h .field .length) && leb (h .field .value) cap
 
 -- the byte that breaks rule 16 is judged too
 unfoldable pub hotRanged : Hot → Bool

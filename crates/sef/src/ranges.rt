@@ -17,8 +17,6 @@ use rules::BYTE_LIMIT;
 // The byte that breaks rule 16 is judged too.
 const BYTES_MOST: u64 = BYTE_LIMIT + 1;
 
-const WRONG_MOST: u64 = 1;
-
 // A line has a bar before each field, and the last one.
 const BARS_MOST: u64 = FIELDS_MOST + 1;
 
@@ -46,7 +44,7 @@ fn line_ranged(h: Hot) -> bool
         & (h.fields <= FIELDS_MOST)
         & (h.kind <= KIND_MOST)
         & (f.length <= h.bytes)
-        & (f.wrong <= WRONG_MOST)
+        & (f.wrong <= f.length)
         & (f.value <= CAP)
 }
 

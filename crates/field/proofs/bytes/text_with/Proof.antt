@@ -18,9 +18,13 @@ returns c = search called depth 12
 add-t6 : tie.Need-add-t6
 add-t6 c = search needs
 
+wrong-at-requires : tie.Need-wrong-at-requires
+wrong-at-requires c κs = search needs
+
 returns-2 : tie.Need-returns-2
 unfolding textWith
 returns-2 c = search called depth 12
 
 pub text-with-spec : {M : Type 1} → statement M
-text-with-spec = tie.close (tie.spec has-at-requires add-t5 returns add-t6 returns-2)
+text-with-spec =
+    tie.close (tie.spec has-at-requires add-t5 returns add-t6 wrong-at-requires returns-2)
