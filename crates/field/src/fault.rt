@@ -18,7 +18,7 @@ use crate::check_digits::is_cnpj;
 use crate::check_digits::is_cpf;
 use crate::date::is_date;
 
-const WRONG_CHARACTERS: u64 = 10;
+pub const WRONG_CHARACTERS: u64 = 10;
 
 const WRONG_SIZE: u64 = 11;
 

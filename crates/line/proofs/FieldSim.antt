@@ -14,7 +14,7 @@ use Rattle.layout.specs.Kinds.{kind}
 use Rattle.rules.specs.Bytes.{lines, rows, rowAtHand, bars, word, empty}
 use Rattle.rules.specs.Counts.{due}
 use Rattle.rules.specs.Fields.{Form, formOf, states}
-use Rattle.rules.specs.Rules.{Fault, clear, breaks, formAtHand}
+use Rattle.rules.specs.Rules.{Fault, clear, breaks, formAtHand, wrongByte}
 use Rattle.rules.proofs.TestLaws.{split, pick-le}
 use Rattle.layout.proofs.RoleLaws.{opening-kind}
 use Rattle.rules.proofs.ByteLaws.{bars-lines, rows-length}
@@ -80,24 +80,30 @@ opening-told seen z two o =
     let k = opening-kind (rowAtHand seen) o in
     rw (two, k) (opens-zero (due (rowAtHand seen) (rows seen)) (word seen) (rw (two, k) at z))
 
-abbrev faultFor : ℕ → ℕ → Fault
-faultFor n f = pick (eqb n 0) clear (breaks n f)
+abbrev faultFor : ℕ → ℕ → ℕ → Fault
+faultFor n f p = pick (eqb n 0) clear (breaks n f p)
 
--- the five rules of a field's bar, as one number
-by-number : (a b c d e : Bool) (f : ℕ)
-    → pick a (breaks 10 f) (pick b (breaks 11 f) (pick c (breaks 12 f) (pick d (breaks 13 f) (pick e (breaks 24 f) clear))))
-    ≡ faultFor (pick a 10 (pick b 11 (pick c 12 (pick d 13 (pick e 24 0))))) f
-by-number true b c d e f = refl
-by-number false true c d e f = refl
-by-number false false true d e f = refl
-by-number false false false true e f = refl
-by-number false false false false true f = refl
-by-number false false false false false f = refl
+-- the five rules of a field's bar, as one number; the first gives a position
+by-number : (a b c d e : Bool) (f p : ℕ)
+    → pick a (breaks 10 f p)
+    (pick b (breaks 11 f 0) (pick c (breaks 12 f 0) (pick d (breaks 13 f 0) (pick e (breaks 24 f 0) clear))))
+    ≡ faultFor (pick a 10 (pick b 11 (pick c 12 (pick d 13 (pick e 24 0))))) f (pick a p 0)
+by-number true b c d e f p = refl
+by-number false true c d e f p = refl
+by-number false false true d e f p = refl
+by-number false false false true e f p = refl
+by-number false false false false true f p = refl
+by-number false false false false false f p = refl
 
-pub field-fault-is : (seen : List ℕ) → fieldFault seen ≡ faultFor (found seen) (bars seen)
+abbrev pub wrongForm : List ℕ → Bool
+wrongForm seen = not (empty (word seen)) && not (formAtHand seen .characters (word seen))
+
+pub field-fault-is : (seen : List ℕ)
+    → fieldFault seen ≡ faultFor (found seen) (bars seen) (pick (wrongForm seen) (wrongByte seen) 0)
 unfolding ruled formAtHand
 field-fault-is seen =
     let w = word seen in
     let f = formOf (kind (rowAtHand seen) (bars seen)) in
     by-number (not (empty w) && not (f .characters w)) (not (empty w) && not (f .size (length w))) (not (f .content w))
     (f .isCount && not (states (due (rowAtHand seen) (rows seen)) w)) (not (empty w) && not (f .digits w)) (bars seen)
+    (wrongByte seen)

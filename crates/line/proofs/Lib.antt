@@ -5,3 +5,4 @@ pub mod HotOf
 pub mod OrderSim
 pub mod FieldSim
 pub mod Sim
+pub mod PositionSim

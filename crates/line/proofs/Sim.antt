@@ -39,7 +39,7 @@ use Rattle.line.proofs.FieldSim.{found, found-is, opening-told, field-f
 -- the step that the rules ask for
 abbrev stepFor : Fault → Hot → Step
 stepFor clear h = Next h
-stepFor (breaks n f) h = Broken n f
+stepFor (breaks n f p) h = Broken n f
 
 abbrev Does : List ℕ → ℕ → Step → Type 0
 Does seen b s = s ≡ stepFor (firstBroken rules seen b) (hotOf (b ∷ seen))

@@ -15,7 +15,7 @@ use Rattle.rules.specs.Bytes.{bar, CR, LF, isEndByte}
 use Rattle.rules.specs.Order.{isData}
 use Rattle.layout.specs.Climb.{climb}
 use Rattle.rules.specs.Rules.{byteLimit}
-use Rattle.field.specs.Streaming.{cap, emptyField, withByte, faultOf}
+use Rattle.field.specs.Streaming.{cap, emptyField, wrongAt, withByte, faultOf}
 use Rattle.field.specs.declared.bytes.Field.{Field}
 use Rattle.line.specs.declared.hot.Hot.{Hot}
 use Rattle.line.specs.declared.step.Step.{Step}
@@ -200,3 +200,7 @@ stepOf h stamps occurrences b =
     pick (leb byteLimit (h .bytes)) (Broken 16 0)
     (pick (eqb (h .bars) 0) (startOf h b)
     (pick (ltb (h .fields) (h .bars)) (pastOf h b) (inFieldOf h stamps occurrences b)))
+
+-- The position in the field that the refusal by this rule gives, at the state before the refusing byte.
+unfoldable pub positionOf : Hot → ℕ → ℕ
+positionOf h rule = pick (eqb rule 2) (h .field .length + 1) (pick (eqb rule 10) (wrongAt (h .field)) 0)

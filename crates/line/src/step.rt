@@ -7,7 +7,7 @@ ghost use Rattle.layout.specs.Kinds.{kind};
 ghost use Rattle.rules.specs.Bytes.{isEndByte};
 ghost use Rattle.field.specs.Streaming.{faultOf};
 ghost use Rattle.line.specs.Machine.{HotFit, Tables, wordRow, codeBarOf, dueOf, saysOf, fieldBarOf, barOf, controlOf};
-ghost use Rattle.line.specs.Machine.{pastOf, startOf, stepOf};
+ghost use Rattle.line.specs.Machine.{pastOf, startOf, stepOf, positionOf};
 use crate::hot::CODE_KIND;
 use crate::hot::Hot;
 use crate::hot::ended;
@@ -22,6 +22,8 @@ use crate::order::stands;
 use field::bytes::CLASS_COUNT;
 use field::bytes::CLASS_OPENS;
 use field::bytes::SIZE_UNIT;
+use field::bytes::wrong_at;
+use field::fault::WRONG_CHARACTERS;
 use field::fault::fault;
 use layout::codes::SLOTS;
 use layout::codes::row_of_code;
@@ -45,7 +47,7 @@ const BLANK: u8 = 32;
 // The rules that a byte can break here, by 01's numbers; those of a field's contents are the crate field's.
 const NOT_A_BAR: u64 = 1;
 
-const CONTROL_BYTE: u64 = 2;
+pub const CONTROL_BYTE: u64 = 2;
 
 const NO_SUCH_ROW: u64 = 3;
 
@@ -333,4 +335,20 @@ pub fn judge(
         return control(h, b);
     }
     Step::Next(grown(h, b))
+}
+
+// The position that the refusal by this rule gives, told from the state before the refusing byte. A file has at most one refusal:
+// so it is asked there, and a step carries none.
+pub fn position(h: Hot, rule: u64) -> u64
+    requires { ⌜ HotFit h ⌝ }
+    ensures { λ p. ⌜ p ≡ positionOf h rule ⌝ }
+{
+    let f = h.field;
+    if rule == CONTROL_BYTE {
+        return f.length + 1;
+    }
+    if rule == WRONG_CHARACTERS {
+        return wrong_at(f);
+    }
+    0
 }

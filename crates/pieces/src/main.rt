@@ -28,6 +28,7 @@ fn print(unrefused: &[u8], n: Numbers) {
         number(n.refusal);
         number(n.line);
         number(n.field);
+        number(n.position);
     }
     number(n.lines);
     number(n.bytes);

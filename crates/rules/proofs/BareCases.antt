@@ -14,7 +14,7 @@ use Rattle.rules.specs.Position
 use Rattle.rules.specs.Rules
 use Rattle.rules.specs.BareCases.{rowNamed, rowsNamed, placed, dueAfter, lineCases, numberOf, brokenAfter, dated, byteCases}
 use Rattle.rules.specs.BareCases.{digitAfter, brokenDigits, digitCases, checkedBarCases}
-use Rattle.rules.specs.BareCases.{firstWrong, positionCases}
+use Rattle.rules.specs.BareCases.{numberAndPosition, placedAfter, firstWrong, positionCases, positionByteCases}
 
 pub line-cases : map (λ c. c .says) lineCases ≡ map (λ c. c .given) lineCases
 unfolding lineCases rowNamed rowsNamed placed dueAfter Text.bytes Text.codeNumber Text.textNumber Rows.rowTable
@@ -58,3 +58,17 @@ pub position-cases : map (λ c. c .says) positionCases ≡ map (λ c. c .given) 
 unfolding positionCases firstWrong Text.bytes Bytes.empty Fields.isDigit Fields.allDigits Fields.isDecimal Fields.upToDecimals
     Fields.beginsDecimal Fields.formOf Position.position
 position-cases = refl
+
+pub position-byte-cases : map (λ c. c .says) positionByteCases ≡ map (λ c. c .given) positionByteCases
+unfolding positionByteCases numberAndPosition placedAfter Text.bytes Text.codeNumber Text.textNumber Rows.rowTable
+    Rows.listed Rows.code Rows.fields Rows.isOpening Rows.isClosing Rows.rowFrom Rows.rowOfCode Sheets.sheets
+    Kinds.kindOf Kinds.sheetOf Kinds.fitted Kinds.kindsOf Kinds.kind Bytes.cut Bytes.lineAtHand
+    Bytes.part Bytes.field Bytes.rowOfWord Bytes.rowOf Bytes.rowAtHand Bytes.bars Bytes.word Bytes.empty
+    Bytes.isEndByte CheckDigits.digitsOf CheckDigits.weighed CheckDigits.checkDigit CheckDigits.rightAfter CheckDigits.bothRight
+    CheckDigits.isCnpj CheckDigits.isCpf Fields.isDigit Fields.allDigits Fields.value Fields.isDecimal Fields.upToDecimals
+    Fields.beginsDecimal Fields.isLeapYear
+    Fields.daysOf Fields.isDate Fields.sameBytes Fields.isText Fields.formOf Rules.inField Rules.pastFields
+    Rules.isCodeBar Rules.isFieldBar Rules.formAtHand Rules.breaks1 Rules.breaks2 Rules.breaks3 Rules.breaks4
+    Rules.breaks5 Rules.breaks6 Rules.breaks7 Rules.breaks8 Rules.breaks9 Rules.breaks10 Rules.breaks11
+    Rules.breaks12 Rules.breaks13 Rules.breaks24 Rules.controlByte Rules.wrongByte Position.position Rules.rules Rules.firstBroken
+position-byte-cases = refl

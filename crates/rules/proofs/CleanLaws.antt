@@ -29,23 +29,23 @@ module _ (seen : List ℕ) (b : ℕ) where
   unfolding verdict verdictAfter
   verdict-next c = rw c
 
-  pub verdict-stays : (n line f l k : ℕ) → verdict seen ≡ refused n line f l k → verdict (b ∷ seen) ≡ refused n line f l k
+  pub verdict-stays : (n line f p l k : ℕ) → verdict seen ≡ refused n line f p l k → verdict (b ∷ seen) ≡ refused n line f p l k
   unfolding verdict verdictAfter
-  verdict-stays n line f l k e = rw e
+  verdict-stays n line f p l k e = rw e
 
   pub clean-next : Clean seen → fault seen b ≡ clear → Clean (b ∷ seen)
   unfolding judged
   clean-next c e = verdict-next c ∙ rw e
 
-  pub verdict-broken : Clean seen → (n f : ℕ) → fault seen b ≡ breaks n f
-      → verdict (b ∷ seen) ≡ refused n (suc (length (lines seen))) f (length (lines seen)) (suc (length seen))
+  pub verdict-broken : Clean seen → (n f p : ℕ) → fault seen b ≡ breaks n f p
+      → verdict (b ∷ seen) ≡ refused n (suc (length (lines seen))) f p (length (lines seen)) (suc (length seen))
   unfolding judged
-  verdict-broken c n f e = verdict-next c ∙ rw e
+  verdict-broken c n f p e = verdict-next c ∙ rw e
 
   -- the byte that is refused, and those after it, do not stand
-  pub standing-refused : (n line f l k : ℕ) → verdict (b ∷ seen) ≡ refused n line f l k → standing (b ∷ seen) ≡ standing seen
+  pub standing-refused : (n line f p l k : ℕ) → verdict (b ∷ seen) ≡ refused n line f p l k → standing (b ∷ seen) ≡ standing seen
   unfolding standing unrefused
-  standing-refused n line f l k e = rw e
+  standing-refused n line f p l k e = rw e
 
 -- the bytes of a clean history stand
 pub standing-clean : (seen : List ℕ) → Clean seen → standing seen ≡ seen
@@ -65,14 +65,16 @@ pub record Refused (seen : List ℕ) : Type 0 where
   pub parts : seen ≡ later ++ byte ∷ before
   pub number : ℕ
   pub named : ℕ
+  pub position : ℕ
   pub clean : Clean before
-  pub broken : fault before byte ≡ breaks number named
-  pub says : verdict seen ≡ refused number (suc (length (lines before))) named (length (lines before)) (suc (length before))
+  pub broken : fault before byte ≡ breaks number named position
+  pub says : verdict seen
+      ≡ refused number (suc (length (lines before))) named position (length (lines before)) (suc (length before))
   pub left : standing seen ≡ before
 
-refused-now : (seen : List ℕ) (b n f : ℕ) → Clean seen → fault seen b ≡ breaks n f → Refused (b ∷ seen)
-refused-now seen b n f c e =
-    let v = verdict-broken seen b c n f e in
+refused-now : (seen : List ℕ) (b n f p : ℕ) → Clean seen → fault seen b ≡ breaks n f p → Refused (b ∷ seen)
+refused-now seen b n f p c e =
+    let v = verdict-broken seen b c n f p e in
     record {
       before = seen;
       byte = b;
@@ -80,15 +82,16 @@ refused-now seen b n f c e =
       parts = refl;
       number = n;
       named = f;
+      position = p;
       clean = c;
       broken = e;
       says = v;
-      left = standing-refused seen b n _ f _ _ v ∙ standing-clean seen c;
+      left = standing-refused seen b n _ f p _ _ v ∙ standing-clean seen c;
     }
 
 refused-stays : (seen : List ℕ) (b : ℕ) → Refused seen → Refused (b ∷ seen)
 refused-stays seen b r =
-    let v = verdict-stays seen b (r .number) _ (r .named) _ _ (r .says) in
+    let v = verdict-stays seen b (r .number) _ (r .named) (r .position) _ _ (r .says) in
     record {
       before = r .before;
       byte = r .byte;
@@ -96,15 +99,16 @@ refused-stays seen b r =
       parts = ap (λ bs. b ∷ bs) (r .parts);
       number = r .number;
       named = r .named;
+      position = r .position;
       clean = r .clean;
       broken = r .broken;
       says = v;
-      left = standing-refused seen b (r .number) _ (r .named) _ _ v ∙ r .left;
+      left = standing-refused seen b (r .number) _ (r .named) (r .position) _ _ v ∙ r .left;
     }
 
 judge : (seen : List ℕ) (b : ℕ) (f : Fault) → fault seen b ≡ f → Clean seen → Clean (b ∷ seen) ⊎ Refused (b ∷ seen)
 judge seen b clear e c = inl (clean-next seen b c e)
-judge seen b (breaks n f) e c = inr (refused-now seen b n f c e)
+judge seen b (breaks n f p) e c = inr (refused-now seen b n f p c e)
 
 pub clean-or-refused : (seen : List ℕ) → Clean seen ⊎ Refused seen
 clean-or-refused [] = inl clean-start
@@ -112,11 +116,11 @@ clean-or-refused (b ∷ seen) =
     ⊎-elim (judge seen b (fault seen b) refl) (λ r. inr (refused-stays seen b r)) (clean-or-refused seen)
 
 -- what was refused stays refused
-pub verdict-later : (n line f l k : ℕ) (later seen : List ℕ) → verdict seen ≡ refused n line f l k
-    → verdict (later ++ seen) ≡ refused n line f l k
-verdict-later n line f l k [] seen e = e
-verdict-later n line f l k (b ∷ later) seen e =
-    verdict-stays (later ++ seen) b n line f l k (verdict-later n line f l k later seen e)
+pub verdict-later : (n line f p l k : ℕ) (later seen : List ℕ) → verdict seen ≡ refused n line f p l k
+    → verdict (later ++ seen) ≡ refused n line f p l k
+verdict-later n line f p l k [] seen e = e
+verdict-later n line f p l k (b ∷ later) seen e =
+    verdict-stays (later ++ seen) b n line f p l k (verdict-later n line f p l k later seen e)
 
 -- no history is both open and refused, so one that is open is clean
 pub not-both : {X : Type 0} (seen : List ℕ) (l n : ℕ) → verdict seen ≡ stillOpen l n → Refused seen → X
@@ -125,8 +129,8 @@ not-both seen l n e r = absurd (let q = r .says in let z : _≡_ {A = ℕ} 0 1 =
 pub open-clean : (seen : List ℕ) (l n : ℕ) → verdict seen ≡ stillOpen l n → Clean seen
 open-clean seen l n e = ⊎-elim (λ c. c) (not-both seen l n e) (clean-or-refused seen)
 
-pub refused-parts : (seen : List ℕ) (n line f l k : ℕ) → verdict seen ≡ refused n line f l k → Refused seen
-refused-parts seen n line f l k e =
+pub refused-parts : (seen : List ℕ) (n line f p l k : ℕ) → verdict seen ≡ refused n line f p l k → Refused seen
+refused-parts seen n line f p l k e =
     ⊎-elim (λ c. absurd (let z : _≡_ {A = ℕ} 0 1 = cc in omega arith)) (λ r. r) (clean-or-refused seen)
 
 -- A clean history was clean before its last byte, which breaks no rule.
@@ -139,15 +143,15 @@ module _ (seen : List ℕ) (b : ℕ) (c : Clean (b ∷ seen)) where
     where
       go : (f : Fault) → fault seen b ≡ f → fault seen b ≡ clear
       go clear e = e
-      go (breaks n f) e = not-both (b ∷ seen) _ _ c (refused-now seen b n f clean-before e)
+      go (breaks n f p) e = not-both (b ∷ seen) _ _ c (refused-now seen b n f p clean-before e)
 
 -- a byte that breaks no rule
 module _ (seen : List ℕ) (b : ℕ) (e : fault seen b ≡ clear) where
   clear-parts : (full seen ≡ false) × (complete seen ≡ false) × (firstBroken rules seen b ≡ clear)
   unfolding fault faultBy
   clear-parts =
-      let a = pick-clear (full seen) 16 0 _ e in
-      let d = pick-clear (complete seen) 15 0 _ (a .1) in
+      let a = pick-clear (full seen) 16 0 0 _ e in
+      let d = pick-clear (complete seen) 15 0 0 _ (a .1) in
       (a .0, d .0, d .1)
 
   pub clear-room : length seen < byteLimit
@@ -168,22 +172,22 @@ clean-short (b ∷ seen) c = clear-room seen b (clean-clear seen b c)
 pub finish-clean : (seen : List ℕ) → Clean seen
     → finishVerdict seen
     ≡ pick (complete seen) (accepted (length (lines seen)) (length seen))
-    (refused 14 (suc (length (lines seen))) 0 (length (lines seen)) (length seen))
+    (refused 14 (suc (length (lines seen))) 0 0 (length (lines seen)) (length seen))
 unfolding finishVerdict finishAfter
 finish-clean seen c = rw c
 
-pub finish-refused : (seen : List ℕ) (n line f l k : ℕ) → verdict seen ≡ refused n line f l k
-    → finishVerdict seen ≡ refused n line f l k
+pub finish-refused : (seen : List ℕ) (n line f p l k : ℕ) → verdict seen ≡ refused n line f p l k
+    → finishVerdict seen ≡ refused n line f p l k
 unfolding finishVerdict finishAfter
-finish-refused seen n line f l k e = rw e
+finish-refused seen n line f p l k e = rw e
 
 pub accepted-clean : (seen : List ℕ) (l n : ℕ) → finishVerdict seen ≡ accepted l n → Clean seen × (complete seen ≡ true)
 accepted-clean seen l n e =
     ⊎-elim (λ c. (c, split (complete seen) (λ t. t) (λ t. never (rw (finish-clean seen c, t) at e))))
-    (λ r. never (sym (finish-refused seen _ _ _ _ _ (r .says)) ∙ e))
+    (λ r. never (sym (finish-refused seen _ _ _ _ _ _ (r .says)) ∙ e))
     (clean-or-refused seen)
   where
-    never : {X : Type 0} {r line f k m : ℕ} → refused r line f k m ≡ accepted l n → X
+    never : {X : Type 0} {r line f p k m : ℕ} → refused r line f p k m ≡ accepted l n → X
     never q = absurd (let z : _≡_ {A = ℕ} 0 1 = cc in omega arith)
 
 pub accepted-numbers : (seen : List ℕ) (l n : ℕ) → finishVerdict seen ≡ accepted l n

@@ -15,7 +15,7 @@ use Rattle.rules.specs.Order.{last, canStand, hasRoom, isData}
 use Rattle.rules.specs.Counts.{due}
 use Rattle.rules.specs.Fields.{formOf, states}
 use Rattle.rules.specs.Rules.{Fault, clear, breaks, rules, firstBroken, inField, pastFields, rowToBe, formAtHand}
-use Rattle.rules.specs.Rules.{openedBy, complete, isLastLine, isCodeBar, isFieldBar}
+use Rattle.rules.specs.Rules.{openedBy, complete, isLastLine, isCodeBar, isFieldBar, controlByte, wrongByte}
 use Rattle.rules.specs.Rules.{breaks1, breaks2, breaks3, breaks4, breaks5, breaks6, breaks7}
 use Rattle.rules.specs.Rules.{breaks8, breaks9, breaks10, breaks11, breaks12, breaks13, breaks24}
 use Rattle.rules.proofs.TestLaws.{split, and-left, and-right, and-false}
@@ -76,10 +76,10 @@ module _ (seen : List ℕ) where
 abbrev pub codeFault : List ℕ → Fault
 codeFault seen =
     let r = rowToBe seen in
-    pick (eqb r none) (breaks 3 1)
-    (pick (not (canStand r (rows seen))) (breaks 4 1)
-    (pick (isData r && openedBy "1" (lines seen) || isClosing r && openedBy "0" (lines seen)) (breaks 5 1)
-    (pick (not (hasRoom r (rows seen))) (breaks 6 1) clear)))
+    pick (eqb r none) (breaks 3 1 0)
+    (pick (not (canStand r (rows seen))) (breaks 4 1 0)
+    (pick (isData r && openedBy "1" (lines seen) || isClosing r && openedBy "0" (lines seen)) (breaks 5 1 0)
+    (pick (not (hasRoom r (rows seen))) (breaks 6 1 0) clear)))
 
 -- the rules of the bar after a later field
 abbrev pub fieldFault : List ℕ → Fault
@@ -87,21 +87,23 @@ fieldFault seen =
     let n = bars seen in
     let w = word seen in
     let f = formAtHand seen in
-    pick (not (empty w) && not (f .characters w)) (breaks 10 n)
-    (pick (not (empty w) && not (f .size (length w))) (breaks 11 n)
-    (pick (not (f .content w)) (breaks 12 n)
-    (pick (f .isCount && not (states (due (rowAtHand seen) (rows seen)) w)) (breaks 13 n)
-    (pick (not (empty w) && not (f .digits w)) (breaks 24 n) clear))))
+    pick (not (empty w) && not (f .characters w)) (breaks 10 n (wrongByte seen))
+    (pick (not (empty w) && not (f .size (length w))) (breaks 11 n 0)
+    (pick (not (f .content w)) (breaks 12 n 0)
+    (pick (f .isCount && not (states (due (rowAtHand seen) (rows seen)) w)) (breaks 13 n 0)
+    (pick (not (empty w) && not (f .digits w)) (breaks 24 n 0) clear))))
 
 -- the rules of a byte in a field that is no bar
 abbrev pub byteFault : List ℕ → ℕ → Fault
-byteFault seen b = pick (ltb b 32) (pick (empty (word seen) && isEndByte b) (breaks 7 (bars seen)) (breaks 2 (bars seen))) clear
+byteFault seen b =
+    pick (ltb b 32) (pick (empty (word seen) && isEndByte b) (breaks 7 (bars seen) 0) (breaks 2 (bars seen) (controlByte seen)))
+    clear
 
 -- the rules of a byte past the fields
 abbrev pub endFault : List ℕ → ℕ → Fault
 endFault seen b =
-    pick (empty (word seen)) (pick (isEndByte b) (pick (eqb b LF) (breaks 9 0) clear) (breaks 8 (bars seen)))
-    (pick (eqb b LF) clear (breaks 9 0))
+    pick (empty (word seen)) (pick (isEndByte b) (pick (eqb b LF) (breaks 9 0 0) clear) (breaks 8 (bars seen) 0))
+    (pick (eqb b LF) clear (breaks 9 0 0))
 
 -- no end byte is 32 or more
 high-byte : (b : ℕ) → ltb b 32 ≡ false → isEndByte b ≡ false
@@ -135,7 +137,7 @@ module _ (seen : List ℕ) where
       simp (ne-eqb (bars seen) 0 (λ z. omega arith), ne-eqb (bars seen) 1 (λ z. omega arith), e, in-past e, and-false)
 
   module _ (b : ℕ) where
-    pub fault-start : bars seen ≡ 0 → firstBroken rules seen b ≡ pick (not (eqb b bar)) (breaks 1 0) clear
+    pub fault-start : bars seen ≡ 0 → firstBroken rules seen b ≡ pick (not (eqb b bar)) (breaks 1 0 0) clear
     unfolding rules firstBroken inField pastFields isCodeBar isFieldBar
         breaks1 breaks2 breaks3 breaks4 breaks5 breaks6 breaks7 breaks8 breaks9 breaks10 breaks11 breaks12 breaks13 breaks24
     fault-start e = simp (e, le-ltb (fields (rowAtHand seen)) 0 (omega arith))

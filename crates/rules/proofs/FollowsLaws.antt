@@ -60,20 +60,22 @@ module _ (file : List ℕ) where
       (record { noneBroken = clean-none (reverse file) (c .0); complete = c .1 }, sym (q .0), sym (q .1) ∙ length-reverse file)
 
   -- Refused midway exactly if a byte breaks a rule, and by the first that does.
-  module _ (number line field lines bytes : ℕ) where
-    pub first-midway : FirstBroken file number line field lines bytes → verdictOf file ≡ refused number line field lines bytes
+  module _ (number line field position lines bytes : ℕ) where
+    pub first-midway : FirstBroken file number line field position lines bytes
+        → verdictOf file ≡ refused number line field position lines bytes
     unfolding verdictOf
     first-midway f =
         let seen = reverse (f .before) in
-        let v = verdict-broken seen (f .byte) (none-clean (f .noneBroken)) number field (f .broken) in
+        let v = verdict-broken seen (f .byte) (none-clean (f .noneBroken)) number field position (f .broken) in
         ap verdict (ap reverse (f .parts) ∙ cut-reverse (f .before) (f .byte) (f .after))
-        ∙ verdict-later number _ field _ _ (reverse (f .after)) (f .byte ∷ seen) v
+        ∙ verdict-later number _ field position _ _ (reverse (f .after)) (f .byte ∷ seen) v
         ∙ cc (length-reverse (f .before))
 
-    pub midway-first : verdictOf file ≡ refused number line field lines bytes → FirstBroken file number line field lines bytes
+    pub midway-first : verdictOf file ≡ refused number line field position lines bytes
+        → FirstBroken file number line field position lines bytes
     unfolding verdictOf
     midway-first e =
-        let r = refused-parts (reverse file) number line field lines bytes e in
+        let r = refused-parts (reverse file) number line field position lines bytes e in
         let q = sym (r .says) ∙ e in
         let back = reverse-reverse (r .before) in
         record {
@@ -89,24 +91,27 @@ module _ (file : List ℕ) where
         }
 
     -- At the end too; and there also if the file is cut short.
-    pub first-refused : FirstBroken file number line field lines bytes → finalOf file ≡ refused number line field lines bytes
+    pub first-refused : FirstBroken file number line field position lines bytes
+        → finalOf file ≡ refused number line field position lines bytes
     unfolding verdictOf finalOf
-    first-refused f = finish-refused (reverse file) number line field lines bytes (first-midway f)
+    first-refused f = finish-refused (reverse file) number line field position lines bytes (first-midway f)
 
-    pub short-refused : CutShort file number line field lines bytes → finalOf file ≡ refused number line field lines bytes
+    pub short-refused : CutShort file number line field position lines bytes
+        → finalOf file ≡ refused number line field position lines bytes
     unfolding finalOf
     short-refused s =
         finish-clean (reverse file) (none-clean (s .noneBroken)) ∙ rw (s .incomplete) (cc (length-reverse file))
 
-    pub refused-names : finalOf file ≡ refused number line field lines bytes
-        → FirstBroken file number line field lines bytes ⊎ CutShort file number line field lines bytes
+    pub refused-names : finalOf file ≡ refused number line field position lines bytes
+        → FirstBroken file number line field position lines bytes ⊎ CutShort file number line field position lines bytes
     unfolding finalOf verdictOf
     refused-names e =
         ⊎-elim (λ c. inr (short c (complete (reverse file)) refl))
-        (λ r. inl (midway-first (r .says ∙ sym (finish-refused (reverse file) _ _ _ _ _ (r .says)) ∙ e)))
+        (λ r. inl (midway-first (r .says ∙ sym (finish-refused (reverse file) _ _ _ _ _ _ (r .says)) ∙ e)))
         (clean-or-refused (reverse file))
       where
-        short : Clean (reverse file) → (t : Bool) → complete (reverse file) ≡ t → CutShort file number line field lines bytes
+        short : Clean (reverse file) → (t : Bool) → complete (reverse file) ≡ t
+            → CutShort file number line field position lines bytes
         short c true t =
             let q = rw (finish-clean (reverse file) c, t) at e in
             absurd (let z : _≡_ {A = ℕ} 0 1 = cc in omega arith)
@@ -117,16 +122,17 @@ module _ (file : List ℕ) where
               incomplete = t;
               numberIs = cc;
               fieldIs = cc;
+              positionIs = cc;
               lineIs = cc;
               linesAre = cc;
               bytesAre = cc (length-reverse file);
             }
 
 -- Only one place is the first.
-pub one-first : (file : List ℕ) (number line field lines bytes number′ line′ field′ lines′ bytes′ : ℕ)
-    → FirstBroken file number line field lines bytes → FirstBroken file number′ line′ field′ lines′ bytes′
-    → (number ≡ number′) × (line ≡ line′) × (field ≡ field′) × (lines ≡ lines′) × (bytes ≡ bytes′)
-one-first file number line field lines bytes number′ line′ field′ lines′ bytes′ f g =
-    let e = first-midway file number line field lines bytes f in
-    let q = first-midway file number′ line′ field′ lines′ bytes′ g in
-    (cc, cc, cc, cc, cc)
+pub one-first : (file : List ℕ) (number line field position lines bytes number′ line′ field′ position′ lines′ bytes′ : ℕ)
+    → FirstBroken file number line field position lines bytes → FirstBroken file number′ line′ field′ position′ lines′ bytes′
+    → (number ≡ number′) × (line ≡ line′) × (field ≡ field′) × (position ≡ position′) × (lines ≡ lines′) × (bytes ≡ bytes′)
+one-first file number line field position lines bytes number′ line′ field′ position′ lines′ bytes′ f g =
+    let e = first-midway file number line field position lines bytes f in
+    let q = first-midway file number′ line′ field′ position′ lines′ bytes′ g in
+    (cc, cc, cc, cc, cc, cc)

@@ -18,7 +18,7 @@ use Rattle.rules.specs.Order.{canStand, hasRoom, isData}
 use Rattle.rules.specs.Counts.{due}
 use Rattle.rules.specs.Fields.{formOf, states}
 use Rattle.rules.specs.Rules.{clear, rules, firstBroken, fault, inField}
-use Rattle.rules.specs.Rules.{pastFields, rowToBe, formAtHand, openedBy, byteLimit}
+use Rattle.rules.specs.Rules.{pastFields, rowToBe, formAtHand, openedBy, byteLimit, controlByte}
 use Rattle.rules.proofs.TestLaws.{split, pick-le, pick-clear, broken-clear, then-holds}
 use Rattle.layout.proofs.CodeLaws.{row-of-code-le}
 use Rattle.layout.proofs.RowLaws.{fields-two}
@@ -68,10 +68,10 @@ pub code-known : (seen : List ℕ) → codeFault seen ≡ clear → Known (rowTo
 unfolding rowToBe
 code-known seen e =
     let r = rowOfWord (word seen) in
-    let three = pick-clear (eqb r none) 3 1 _ e in
-    let four = pick-clear (not (canStand r (rows seen))) 4 1 _ (three .1) in
-    let five = pick-clear (isData r && openedBy "1" (lines seen) || isClosing r && openedBy "0" (lines seen)) 5 1 _ (four .1) in
-    let six = pick-clear (not (hasRoom r (rows seen))) 6 1 _ (five .1) in
+    let three = pick-clear (eqb r none) 3 1 0 _ e in
+    let four = pick-clear (not (canStand r (rows seen))) 4 1 0 _ (three .1) in
+    let five = pick-clear (isData r && openedBy "1" (lines seen) || isClosing r && openedBy "0" (lines seen)) 5 1 0 _ (four .1) in
+    let six = pick-clear (not (hasRoom r (rows seen))) 6 1 0 _ (five .1) in
     (word-row-known (word seen) (three .0), not-false _ (four .0), not-false _ (six .0))
 
 -- a bar after a later field that breaks no rule
@@ -82,10 +82,10 @@ field-passed seen e =
     let n = bars seen in
     let f = formOf (kind (rowAtHand seen) n) in
     let s = states (due (rowAtHand seen) (rows seen)) w in
-    let ten = pick-clear (not (empty w) && not (f .characters w)) 10 n _ e in
-    let eleven = pick-clear (not (empty w) && not (f .size (length w))) 11 n _ (ten .1) in
-    let twelve = pick-clear (not (f .content w)) 12 n _ (eleven .1) in
-    let thirteen = pick-clear (f .isCount && not s) 13 n _ (twelve .1) in
+    let ten = pick-clear (not (empty w) && not (f .characters w)) 10 n _ _ e in
+    let eleven = pick-clear (not (empty w) && not (f .size (length w))) 11 n 0 _ (ten .1) in
+    let twelve = pick-clear (not (f .content w)) 12 n 0 _ (eleven .1) in
+    let thirteen = pick-clear (f .isCount && not s) 13 n 0 _ (twelve .1) in
     record {
       inContent = not-false (f .content w) (twelve .0);
       inCount = then-holds (f .isCount) s (thirteen .0);
@@ -99,11 +99,11 @@ lf-past seen e = go (place seen)
     in-field : inField seen ≡ true → pastFields seen ≡ true
     in-field i =
         let q = sym (fault-byte seen LF i refl) ∙ e in
-        split (empty (word seen) && isEndByte LF) (λ m. broken-clear 7 (bars seen) (rw m at q))
-        (λ m. broken-clear 2 (bars seen) (rw m at q))
+        split (empty (word seen) && isEndByte LF) (λ m. broken-clear 7 (bars seen) 0 (rw m at q))
+        (λ m. broken-clear 2 (bars seen) (controlByte seen) (rw m at q))
 
     go : Place seen → pastFields seen ≡ true
-    go (starts z) = broken-clear 1 0 (sym (fault-start seen LF z) ∙ e)
+    go (starts z) = broken-clear 1 0 0 (sym (fault-start seen LF z) ∙ e)
     go (codes d) = in-field (code-in seen d)
     go (fills h i) = in-field i
     go (ends h p) = p
@@ -131,7 +131,7 @@ module _ (seen : List ℕ) (e : firstBroken rules seen bar ≡ clear) where
   unfolding isEndByte
   bar-past p =
       let q = sym (fault-past seen bar p) ∙ e in
-      split (empty (word seen)) (λ t. broken-clear 8 (bars seen) (rw t at q)) (λ t. broken-clear 9 0 (rw t at q))
+      split (empty (word seen)) (λ t. broken-clear 8 (bars seen) 0 (rw t at q)) (λ t. broken-clear 9 0 0 (rw t at q))
 
   known-bar : Sound seen → 2 ≤ bars (bar ∷ seen) → Known (rowAtHand (bar ∷ seen)) (rows (bar ∷ seen))
   known-bar s h = rw (rows-bar seen) (go (place seen))

@@ -57,13 +57,13 @@ pick-le true a b n p q = p
 pick-le false a b n p q = q
 
 -- a byte that breaks a rule is not clear
-pub broken-clear : {X : Type 0} (n f : ℕ) → breaks n f ≡ clear → X
-broken-clear n f e = absurd (let z : _≡_ {A = ℕ} 0 1 = cc in omega arith)
+pub broken-clear : {X : Type 0} (n f p : ℕ) → breaks n f p ≡ clear → X
+broken-clear n f p e = absurd (let z : _≡_ {A = ℕ} 0 1 = cc in omega arith)
 
 -- a chain of rules that is clear: this rule is not broken, and the rest is clear
-pub pick-clear : (t : Bool) (n f : ℕ) (rest : Fault) → pick t (breaks n f) rest ≡ clear → (t ≡ false) × (rest ≡ clear)
-pick-clear true n f rest e = broken-clear n f e
-pick-clear false n f rest e = (refl, e)
+pub pick-clear : (t : Bool) (n f p : ℕ) (rest : Fault) → pick t (breaks n f p) rest ≡ clear → (t ≡ false) × (rest ≡ clear)
+pick-clear true n f p rest e = broken-clear n f p e
+pick-clear false n f p rest e = (refl, e)
 
 -- `a && not c` fails: where a holds, c does
 pub then-holds : (a c : Bool) → (a && not c) ≡ false → a ≡ true → c ≡ true

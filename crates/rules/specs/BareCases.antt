@@ -2,7 +2,7 @@
 -- it. The starred cases are whole files (Cases); these are short enough that a check which refuses one prints the two numbers
 -- that differ.
 use mathlib.Core.List.{List, [], _∷_, map, reverse}
-use Prim.Native.Nat.{ℕ}
+use Prim.Native.Nat.{ℕ, _+_, _*_}
 use Prim.Native.String.{String}
 use Rattle.layout.specs.Pick.{pick}
 use Rattle.layout.specs.Text.{bytes, textNumber}
@@ -63,10 +63,18 @@ lineCases =
 -- the rule that a byte breaks after these bytes of its line; 0 where it breaks none
 unfoldable pub numberOf : Fault → ℕ
 numberOf clear = 0
-numberOf (breaks number field) = number
+numberOf (breaks number field position) = number
 
 unfoldable pub brokenAfter : String → ℕ → ℕ
 brokenAfter line b = numberOf (firstBroken rules (reverse (bytes line)) b)
+
+-- the same with the position of its refusal: a thousand times the number, and the position
+unfoldable pub numberAndPosition : Fault → ℕ
+numberAndPosition clear = 0
+numberAndPosition (breaks number field position) = number * 1000 + position
+
+unfoldable pub placedAfter : String → ℕ → ℕ
+placedAfter line b = numberAndPosition (firstBroken rules (reverse (bytes line)) b)
 
 -- 02, request e: the position of a field's first wrong byte
 unfoldable pub firstWrong : Kind → String → ℕ
@@ -90,6 +98,22 @@ positionCases =
     bare 10 (firstWrong date "010120120x") ∷
     -- one past the end of a text, of which no byte is asked
     bare 3 (firstWrong (C 60) "1x") ∷
+    []
+
+-- the positions among the rules of a byte
+unfoldable pub positionByteCases : List Bare
+positionByteCases =
+    -- an amount of E340: 10, position 6; with two decimals it stands
+    bare 10006 (placedAfter "|E340|12,555" bar) ∷
+    bare 0 (placedAfter "|E340|12,55" bar) ∷
+    -- 2: "the place of the control byte", field 1 included, whatever stood wrong before it
+    bare 2003 (placedAfter "|00" CR) ∷
+    bare 2005 (placedAfter "|E340|1x,5" LF) ∷
+    -- 7, 11, 12 and 24 have 0
+    bare 7000 (placedAfter "|0001|" CR) ∷
+    bare 11000 (placedAfter "|0001|10" bar) ∷
+    bare 12000 (placedAfter "|0001|3" bar) ∷
+    bare 24000 (placedAfter "|0150||||11222333000144" bar) ∷
     []
 
 -- rule 12 of a date; 0 where there is such a date

@@ -34,34 +34,37 @@ withCnpj cnpj = "|0000|LFPD|01012012|31012012|Loja Um|" ∷ cnpj ∷ "||||||||||
 abbrev withCpf : String → List String
 withCpf cpf = "|0000|LFPD|01012012|31012012|Loja Um|||||||||||Brasil|||" ∷ cpf ∷ "||\r\n" ∷ "|0001|1|\r\n" ∷ closing0
 
--- number, line, field, lines ended, bytes judged; the first line has 60 bytes, each other line of Base 10
+-- number, line, field, position, lines ended, bytes judged; the first line has 60 bytes, each other line of Base 10
 unfoldable pub cases : List Case
 cases =
     -- Base: accepted
     case (first ∷ "|0001|1|\r\n" ∷ closing0) (accepted 6 110) ∷
     -- no bytes: 14, line 1
-    case [] (refused 14 1 0 0 0) ∷
+    case [] (refused 14 1 0 0 0 0) ∷
     -- 0990 saying 2: 13, line 3, field 2; saying 0003: accepted
-    case (first ∷ "|0001|1|\r\n" ∷ "|0990|2|\r\n" ∷ closing9) (refused 13 3 2 2 78) ∷
+    case (first ∷ "|0001|1|\r\n" ∷ "|0990|2|\r\n" ∷ closing9) (refused 13 3 2 0 2 78) ∷
     case (first ∷ "|0001|1|\r\n" ∷ "|0990|0003|\r\n" ∷ closing9) (accepted 6 113) ∷
     -- opening 0: 5, line 3; 0025 after opening 1: 5, line 3
-    case (first ∷ "|0001|0|\r\n" ∷ closing0) (refused 5 3 1 2 76) ∷
-    case (first ∷ "|0001|1|\r\n" ∷ "|0025|A|B|\r\n" ∷ closing0) (refused 5 3 1 2 76) ∷
+    case (first ∷ "|0001|0|\r\n" ∷ closing0) (refused 5 3 1 0 2 76) ∷
+    case (first ∷ "|0001|1|\r\n" ∷ "|0025|A|B|\r\n" ∷ closing0) (refused 5 3 1 0 2 76) ∷
     -- as line 2: CR LF for field 2: 7; one bar more: 8, field 3; no last bar: 2, field 2; no CR: 9
-    case (first ∷ "|0001|\r\n" ∷ closing0) (refused 7 2 2 1 67) ∷
-    case (first ∷ "|0001|1||\r\n" ∷ closing0) (refused 8 2 3 1 69) ∷
-    case (first ∷ "|0001|1\r\n" ∷ closing0) (refused 2 2 2 1 68) ∷
-    case (first ∷ "|0001|1|\n" ∷ closing0) (refused 9 2 0 1 69) ∷
+    case (first ∷ "|0001|\r\n" ∷ closing0) (refused 7 2 2 0 1 67) ∷
+    case (first ∷ "|0001|1||\r\n" ∷ closing0) (refused 8 2 3 0 1 69) ∷
+    case (first ∷ "|0001|1\r\n" ∷ closing0) (refused 2 2 2 2 1 68) ∷
+    case (first ∷ "|0001|1|\n" ∷ closing0) (refused 9 2 0 0 1 69) ∷
     -- 0175 right after opening 0: 4
-    case (first ∷ "|0001|0|\r\n" ∷ "|0175||||||||||\r\n" ∷ closing0) (refused 4 3 1 2 76) ∷
+    case (first ∷ "|0001|0|\r\n" ∷ "|0175||||||||||\r\n" ∷ closing0) (refused 4 3 1 0 2 76) ∷
     -- 29022012 in field 3: accepted; 29022011: 12
     case ("|0000|LFPD|29022012|31012012|Loja Um|||||||||||Brasil|||||\r\n" ∷ "|0001|1|\r\n" ∷ closing0) (accepted 6 110) ∷
-    case ("|0000|LFPD|29022011|31012012|Loja Um|||||||||||Brasil|||||\r\n" ∷ "|0001|1|\r\n" ∷ closing0) (refused 12 1 3 0 20) ∷
+    case ("|0000|LFPD|29022011|31012012|Loja Um|||||||||||Brasil|||||\r\n" ∷ "|0001|1|\r\n" ∷ closing0) (refused 12 1 3 0 0 20) ∷
     -- 02, request h: 11222333000181 stands, 11222333000144 does not: 24, field 6; the same for a CPF, field 19
     case (withCnpj "11222333000181") (accepted 6 124) ∷
-    case (withCnpj "11222333000144") (refused 24 1 6 0 52) ∷
+    case (withCnpj "11222333000144") (refused 24 1 6 0 0 52) ∷
     case (withCpf "52998224725") (accepted 6 121) ∷
-    case (withCpf "52998224752") (refused 24 1 19 0 68) ∷
+    case (withCpf "52998224752") (refused 24 1 19 0 0 68) ∷
+    -- 02, request e: 9x012012 in field 3: 10, position 2; 0990 saying 3x: 10, position 2
+    case ("|0000|LFPD|9x012012|31012012|Loja Um|||||||||||Brasil|||||\r\n" ∷ "|0001|1|\r\n" ∷ closing0) (refused 10 1 3 2 0 20) ∷
+    case (first ∷ "|0001|1|\r\n" ∷ "|0990|3x|\r\n" ∷ closing9) (refused 10 3 2 2 2 79) ∷
     -- Base plus byte 26: 15, line 7
-    case (first ∷ "|0001|1|\r\n" ∷ closing0 ++ "\u{1a}" ∷ []) (refused 15 7 0 6 111) ∷
+    case (first ∷ "|0001|1|\r\n" ∷ closing0 ++ "\u{1a}" ∷ []) (refused 15 7 0 0 6 111) ∷
     []

@@ -18,25 +18,27 @@ pub record Follows (file : List ℕ) : Type 0 where
   pub noneBroken : NoneBroken (reverse file)
   pub complete : complete (reverse file) ≡ true
 
--- "The first byte that breaks a rule decides": the bytes before it break none, it breaks this rule and names this field.
+-- "The first byte that breaks a rule decides": the bytes before it break none, it breaks this rule, and names this field and the
+-- position in it.
 -- "Line" is the number of lines ended, plus 1; the refusing byte is judged.
-pub record FirstBroken (file : List ℕ) (number line field lines bytes : ℕ) : Type 0 where
+pub record FirstBroken (file : List ℕ) (number line field position lines bytes : ℕ) : Type 0 where
   pub before : List ℕ
   pub byte : ℕ
   pub after : List ℕ
   pub parts : file ≡ before ++ byte ∷ after
   pub noneBroken : NoneBroken (reverse before)
-  pub broken : fault (reverse before) byte ≡ breaks number field
+  pub broken : fault (reverse before) byte ≡ breaks number field position
   pub lineIs : line ≡ suc lines
   pub linesAre : lines ≡ length (linesOf before)
   pub bytesAre : bytes ≡ suc (length before)
 
--- 14: "finish asked before 9999's LF has come", with field 0: no byte breaks a rule, and the file is too short
-pub record CutShort (file : List ℕ) (number line field lines bytes : ℕ) : Type 0 where
+-- 14: "finish asked before 9999's LF has come", with field and position 0: no byte breaks a rule, and the file is too short
+pub record CutShort (file : List ℕ) (number line field position lines bytes : ℕ) : Type 0 where
   pub noneBroken : NoneBroken (reverse file)
   pub incomplete : complete (reverse file) ≡ false
   pub numberIs : number ≡ 14
   pub fieldIs : field ≡ 0
+  pub positionIs : position ≡ 0
   pub lineIs : line ≡ suc lines
   pub linesAre : lines ≡ length (linesOf file)
   pub bytesAre : bytes ≡ length file

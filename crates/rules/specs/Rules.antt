@@ -2,7 +2,7 @@
 -- `seen` has the bytes received before the byte b, the latest first.
 use mathlib.Core.Bool.{Bool, false, not, _&&_, _||_}
 use mathlib.Core.List.{List, [], _∷_}
-use Prim.Native.Nat.{ℕ}
+use Prim.Native.Nat.{ℕ, suc}
 use Prim.Native.String.{String}
 use lib.Dec.{eqb, leb, ltb}
 use lib.ListN.{length}
@@ -13,6 +13,7 @@ use Rattle.rules.specs.Bytes.{bar, LF, lines, rows, rowAtHand, rowOf, ro
 use Rattle.rules.specs.Order.{canStand, hasRoom, isData}
 use Rattle.rules.specs.Counts.{due}
 use Rattle.rules.specs.Fields.{Form, formOf, isText, states}
+use Rattle.rules.specs.Position.{position}
 
 -- Where the byte stands: in a field of its line (field 1 until the row is known), or past the last field.
 unfoldable pub inField : List ℕ → Bool
@@ -113,53 +114,66 @@ byteLimit = 4294967295
 unfoldable pub full : List ℕ → Bool
 full seen = leb byteLimit (length seen)
 
--- The table of 01 without 14 to 19, and after it 02's 24: a rule's number, when it is broken, and the field that the refusal names.
+-- 02, request e: "Every answer then carries a position, 0 for all but 2 and 10; for 2 it is the place of the control byte."
+unfoldable pub controlByte : List ℕ → ℕ
+controlByte seen = suc (length (word seen))
+
+-- for 10 it is that of the first byte that no field passing it could have there
+unfoldable pub wrongByte : List ℕ → ℕ
+wrongByte seen = position (formAtHand seen) (word seen)
+
+-- The table of 01 without 14 to 19, and after it 02's 24: a rule's number, when it is broken, the field that the refusal names,
+-- and the position in that field.
 pub record Rule : Type 0 where
   pub number : ℕ
   pub broken : List ℕ → ℕ → Bool
   pub names : List ℕ → ℕ
+  pub positionIn : List ℕ → ℕ
 
-abbrev rule : ℕ → (List ℕ → ℕ → Bool) → (List ℕ → ℕ) → Rule
-rule n b f = record { number = n; broken = b; names = f }
+abbrev rule : ℕ → (List ℕ → ℕ → Bool) → (List ℕ → ℕ) → (List ℕ → ℕ) → Rule
+rule n b f p = record { number = n; broken = b; names = f; positionIn = p }
 
 abbrev noField : List ℕ → ℕ
 noField seen = 0
 
+abbrev noByte : List ℕ → ℕ
+noByte seen = 0
+
 unfoldable pub rules : List Rule
 rules =
-    rule 1 breaks1 noField ∷
-    rule 2 breaks2 bars ∷
-    rule 3 breaks3 bars ∷
-    rule 4 breaks4 bars ∷
-    rule 5 breaks5 bars ∷
-    rule 6 breaks6 bars ∷
-    rule 7 breaks7 bars ∷
-    rule 8 breaks8 bars ∷
-    rule 9 breaks9 noField ∷
-    rule 10 breaks10 bars ∷
-    rule 11 breaks11 bars ∷
-    rule 12 breaks12 bars ∷
-    rule 13 breaks13 bars ∷
-    rule 24 breaks24 bars ∷
+    rule 1 breaks1 noField noByte ∷
+    rule 2 breaks2 bars controlByte ∷
+    rule 3 breaks3 bars noByte ∷
+    rule 4 breaks4 bars noByte ∷
+    rule 5 breaks5 bars noByte ∷
+    rule 6 breaks6 bars noByte ∷
+    rule 7 breaks7 bars noByte ∷
+    rule 8 breaks8 bars noByte ∷
+    rule 9 breaks9 noField noByte ∷
+    rule 10 breaks10 bars wrongByte ∷
+    rule 11 breaks11 bars noByte ∷
+    rule 12 breaks12 bars noByte ∷
+    rule 13 breaks13 bars noByte ∷
+    rule 24 breaks24 bars noByte ∷
     []
 
--- what a byte breaks: nothing, or a rule by its number, with the field
+-- what a byte breaks: nothing, or a rule by its number, with the field and the position
 pub data Fault : Type 0 where
   clear : Fault
-  breaks : ℕ → ℕ → Fault
+  breaks : ℕ → ℕ → ℕ → Fault
 
 -- "if it breaks several, the lowest number does": the first of the rules, which stand in this order
 unfoldable pub firstBroken : List Rule → List ℕ → ℕ → Fault
 firstBroken [] seen b = clear
 firstBroken (r ∷ rs) seen b =
     let rest = firstBroken rs seen b in
-    pick (r .broken seen b) (breaks (r .number) (r .names seen)) rest
+    pick (r .broken seen b) (breaks (r .number) (r .names seen) (r .positionIn seen)) rest
 
 -- "except that 16 goes before all. After 9999's LF a byte gets only 15 or 16."
 unfoldable pub faultBy : List Rule → List ℕ → ℕ → Fault
 faultBy held seen b =
     let rest = firstBroken held seen b in
-    pick (full seen) (breaks 16 0) (pick (complete seen) (breaks 15 0) rest)
+    pick (full seen) (breaks 16 0 0) (pick (complete seen) (breaks 15 0 0) rest)
 
 unfoldable pub fault : List ℕ → ℕ → Fault
 fault seen b = faultBy rules seen b

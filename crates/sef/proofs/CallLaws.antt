@@ -107,7 +107,7 @@ module _ (s : State) (before : List ℕ) where
         exact = unfold reportOf in rw (e, le-ltb (length before) rowCount l);
         buffer = unfold reportedOf in rw (e, le-ltb (length before) rowCount l) p;
         counted = λ file g w. of-file file (given-counts file s g);
-        given = λ file g w. unfold reportSaid in (let n = given-ended file s g in λ i. numbers 0 0 0 (n .0 i) (n .1 i));
+        given = λ file g w. unfold reportSaid in (let n = given-ended file s g in λ i. numbers 0 0 0 0 (n .0 i) (n .1 i));
       }
     where
       of-file : (file : List ℕ) → s .tally .counts ≡ countsOf file → after ≡ countsOf file ++ drop rowCount before

@@ -73,7 +73,7 @@ report-any s before r after c = rw (c .exact, c .buffer) (any-report s before)
 -- The final answer, by its tests.
 pub data Finals (s : State) : FinalAnswer → Type 0 where
   accepts : Finals s (Final.Accepted (s .hot .lines) (s .hot .bytes))
-  short : Finals s (Final.Refused (numbers 14 (s .hot .lines + 1) 0 (s .hot .lines) (s .hot .bytes)))
+  short : Finals s (Final.Refused (numbers 14 (s .hot .lines + 1) 0 0 (s .hot .lines) (s .hot .bytes)))
   keeps : (s .rule ≡ 0 → ⊥) → Finals s (Final.Refused (keptOf s))
 
 pub finals : (s : State) → Finals s (finalAnswerOf s)
@@ -82,7 +82,7 @@ finals s = go (eqb (s .rule) 0) refl (eqb (s .hot .last) row9999)
   where
     go : (z : Bool) → eqb (s .rule) 0 ≡ z → (t : Bool)
         → Finals s (pick z (pick t (Final.Accepted (s .hot .lines) (s .hot .bytes))
-        (Final.Refused (numbers 14 (s .hot .lines + 1) 0 (s .hot .lines) (s .hot .bytes)))) (Final.Refused (keptOf s)))
+        (Final.Refused (numbers 14 (s .hot .lines + 1) 0 0 (s .hot .lines) (s .hot .bytes)))) (Final.Refused (keptOf s)))
     go true e true = accepts
     go true e false = short
     go false e t = keeps (eqb-false (s .rule) 0 e)

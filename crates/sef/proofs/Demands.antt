@@ -1,31 +1,32 @@
 -- The tender's demands and what document 01 says of the calls (specs/Demands.antt), proved of what the calls promise.
 use mathlib.Core.Path.{_≡_, _∙_, refl, sym, ap, subst}
-use mathlib.Core.Bool.{Bool, true, false}
+use mathlib.Core.Bool.{Bool, true, false, _&&_}
 use mathlib.Core.List.{List, [], _++_, reverse}
 use mathlib.Core.Logic.{inl, inr, ⊎-elim}
 use Prim.Native.Nat.{ℕ, _+_, _≤_}
 use native.Mathlib.Omega.{arith}
-use lib.Dec.{eqb}
+use lib.Dec.{eqb, leb}
 use lib.ListN.{length, take, drop}
 use lib.Seq.{take-at}
-use borrow.Author.Tests.{ne-eqb, eqb-true, eqb-false, le-ltb, lt-ltb}
+use borrow.Author.Tests.{ne-eqb, eqb-true, eqb-false, leb-true, le-ltb, lt-ltb}
 use Rattle.layout.specs.Rows.{rowCount, block}
 use Rattle.rules.specs.Bytes.{rowOf, rows}
 use Rattle.rules.specs.Totals.{blockCount}
-use Rattle.rules.specs.Verdict.{refused, countsOf, counts, standing}
-use Rattle.rules.proofs.TestLaws.{both}
+use Rattle.rules.specs.Verdict.{Verdict, refused, countsOf, counts, standing}
+use Rattle.rules.proofs.TestLaws.{both, and-left, and-right}
 use Rattle.rules.proofs.CountLaws.{counts-length}
 use Rattle.rules.proofs.FollowsLaws.{none-broken-open, follows-accepted, accepted-follows, first-refused, short-refused}
 use Rattle.rules.proofs.FollowsLaws.{refused-names}
 use Rattle.rules.proofs.TotalLaws.{accepted-last, accepted-sum, accepted-total, accepted-closing, accepted-first}
 use Rattle.rules.proofs.TotalLaws.{accepted-there, accepted-has-0-and-9}
+use Rattle.line.specs.Machine.{positionOf}
 use Rattle.sef.specs.Answers.{numbers, numbersOf, said, finallySaid, reportSaid}
 use Rattle.sef.specs.Calls.{openOf, stoppedOf, runOf, keptOf, unchanged, checkOf, finalAnswerOf, finishOf, reportOf}
-use Rattle.sef.specs.Ranges.{rangedOf}
+use Rattle.sef.specs.Ranges.{positionRanged, rangedOf}
 use Rattle.sef.specs.Promises.{Reached, start, more, Finishes}
 use Rattle.sef.specs.Demands as D
 use Rattle.sef.specs.Demands.{Answered, isAccepted, isRefused, InTable, isOpen, byRule, ofCall, ReportInTable, refuses}
-use Rattle.sef.specs.Demands.{Stays}
+use Rattle.sef.specs.Demands.{Positioned, Stays}
 use Rattle.sef.specs.declared.state.State.{State}
 use Rattle.sef.specs.declared.answers.Numbers.{Numbers}
 use Rattle.sef.specs.declared.answers.Checked.{Checked}
@@ -35,7 +36,8 @@ use Rattle.sef.specs.declared.answers.FinalAnswer.{FinalAnswer}
 use Rattle.sef.specs.declared.answers.FinalAnswer.the-variants as Final
 use Rattle.sef.specs.declared.answers.ReportAnswer.{ReportAnswer}
 use Rattle.sef.specs.declared.answers.ReportAnswer.the-variants as Report
-use Rattle.sef.proofs.RangeLaws.{kept-refusal, no-field, OfRule, of-rule, not-of-call, rule-some}
+use Rattle.sef.proofs.RangeLaws.{kept-refusal, no-field, no-position, OfRule, of-rule, not-of-call, rule-some}
+use Rattle.sef.proofs.StepRanges.{position-ranged}
 use Rattle.sef.proofs.RunLaws.{Comes, opens, stops-by}
 use Rattle.sef.proofs.InRangeLaws.{stopped-ranged, Pieces, late, kept, run, check-pieces, Finishing, closes}
 use Rattle.sef.proofs.InRangeLaws.{finish-finishing}
@@ -47,15 +49,16 @@ use Rattle.sef.proofs.CallViews.{damaged, ranged, no-room, writes, acce
 -- The answers, in the table.
 module _ (s : State) where
   kept-number : rangedOf s ≡ true → (s .rule ≡ 0 → ⊥)
-      → InTable (refused (s .rule) (s .hot .lines + 1) (s .field) (s .hot .lines) (s .hot .bytes))
+      → InTable (refused (s .rule) (s .hot .lines + 1) (s .field) (s .position) (s .hot .lines) (s .hot .bytes))
   kept-number e z =
       let k = kept-refusal s e z in
-      byRule (s .rule) (s .field) (s .hot .lines) (s .hot .bytes) (k .0) (k .1)
+      byRule (s .rule) (s .field) (s .position) (s .hot .lines) (s .hot .bytes) (k .ruleIs) (k .fieldIn) (k .positionIn)
 
   comes-in-table : (c : Checked) → Comes c → InTable (said (c .answer))
   unfolding openOf stoppedOf said
   comes-in-table c (opens h t d) = isOpen (h .lines) (h .bytes)
-  comes-in-table c (stops-by h t rule field d is named) = byRule rule field (h .lines) (h .bytes + 1) is named
+  comes-in-table c (stops-by h t rule field d is named) =
+      byRule rule field (positionOf h rule) (h .lines) (h .bytes + 1) is named (position-ranged h (d .fit) rule)
 
   pieces-in-table : rangedOf s ≡ true → (piece : List ℕ) (c : Checked) → Pieces s piece c → InTable (said (c .answer))
   unfolding said keptOf
@@ -71,7 +74,7 @@ module _ (s : State) where
   finals-in-table : rangedOf s ≡ true → (a : FinalAnswer) → Finals s a → InTable (finallySaid a)
   unfolding finallySaid keptOf
   finals-in-table e a accepts = D.accepts (s .hot .lines) (s .hot .bytes)
-  finals-in-table e a short = byRule 14 0 (s .hot .lines) (s .hot .bytes) refl (omega arith)
+  finals-in-table e a short = byRule 14 0 0 (s .hot .lines) (s .hot .bytes) refl (omega arith) (unfold positionRanged in refl)
   finals-in-table e a (keeps z) = kept-number e z
 
   finishing-in-table : rangedOf s ≡ true → (c : Finished) → Finishing s c → InTable (finallySaid (c .answer))
@@ -96,7 +99,7 @@ finals-answered : (s : State) → rangedOf s ≡ true → (a : FinalAnswer) → 
 unfolding finallySaid keptOf
 finals-answered s e a accepts = isAccepted
 finals-answered s e a short = isRefused {number = 14} refl
-finals-answered s e a (keeps z) = isRefused {number = s .rule} (kept-refusal s e z .0)
+finals-answered s e a (keeps z) = isRefused {number = s .rule} (kept-refusal s e z .ruleIs)
 
 finish-answered : (file : List ℕ) (s : State) (r : Finished) → Reached file s → Finishes s r → Answered (finallySaid (r .answer))
 finish-answered file s r h c =
@@ -127,10 +130,11 @@ accepted-exactly file s r h c =
     ((λ f. c .joined file h ∙ follows-accepted file f), (λ l n e. accepted-follows file l n (sym (c .joined file h) ∙ e) .0))
 
 pub first-place-named : D.FirstPlaceNamed
-first-place-named file s r h c number line field lines bytes = (
-  (λ e. refused-names file number line field lines bytes (sym (c .joined file h) ∙ e)),
+first-place-named file s r h c number line field position lines bytes = (
+  (λ e. refused-names file number line field position lines bytes (sym (c .joined file h) ∙ e)),
   (λ p. c .joined file h
-      ∙ ⊎-elim (first-refused file number line field lines bytes) (short-refused file number line field lines bytes) p),
+      ∙ ⊎-elim (first-refused file number line field position lines bytes)
+      (short-refused file number line field position lines bytes) p),
 )
 
 pub pieces-joined : D.PiecesJoined
@@ -229,10 +233,10 @@ module _ (s : State) where
   comes-of-rule c (stops-by h t rule field d is named) = of-rule rule is
 
   kept-of-rule : rangedOf s ≡ true → (s .rule ≡ 0 → ⊥) → OfRule (s .rule)
-  kept-of-rule e z = of-rule (s .rule) (kept-refusal s e z .0)
+  kept-of-rule e z = of-rule (s .rule) (kept-refusal s e z .ruleIs)
 
   abbrev Nothing : Numbers → State → ℕ → Type 0
-  Nothing k t n = (k ≡ numbers n 0 0 0 0) × (t ≡ s)
+  Nothing k t n = (k ≡ numbers n 0 0 0 0 0) × (t ≡ s)
 
   pieces-nothing : rangedOf s ≡ true → (piece : List ℕ) (c : Checked) → Pieces s piece c → (n : ℕ)
       → numbersOf (said (c .answer)) .refusal ≡ n → 17 ≤ n → n ≤ 19 → Nothing (numbersOf (said (c .answer))) (c .state) n
@@ -268,7 +272,7 @@ module _ (s : State) where
   finish-nothing c (ranged e p) n q l m = finishing-nothing e c p n q l m
 
   report-nothing : (before : List ℕ) (r : ReportAnswer) (after : List ℕ) → AnyReport s before r after → (n : ℕ)
-      → reportSaid r .refusal ≡ n → 17 ≤ n → n ≤ 19 → (reportSaid r ≡ numbers n 0 0 0 0) × (after ≡ before)
+      → reportSaid r .refusal ≡ n → 17 ≤ n → n ≤ 19 → (reportSaid r ≡ numbers n 0 0 0 0 0) × (after ≡ before)
   unfolding reportSaid
   report-nothing before r after (damaged e) n q l m = (rw q, refl)
   report-nothing before r after (no-room e) n q l m = (rw q, refl)
@@ -341,10 +345,51 @@ open-while-unrefused file s piece r h c n = c .joined file h ∙ none-broken-ope
 pub report-gives-them : D.ReportGivesThem
 report-gives-them file s before r after g c z = c .given file g z
 
+-- a position is given by 2 and 10 alone
+positioned : (n : Numbers) → positionRanged (n .refusal) (n .position) (n .bytes) ≡ true → Positioned n
+unfolding positionRanged
+positioned n e = record { ofTwoAndTen = ⊎-elim (λ two. within (rw two at e)) (λ ten. within (rw ten at e)); ofOthers = others }
+  where
+    within : (leb 1 (n .position) && leb (n .position) (n .bytes)) ≡ true → (1 ≤ n .position) × (n .position ≤ n .bytes)
+    within b = (
+      leb-true _ _ (and-left (leb 1 (n .position)) (leb (n .position) (n .bytes)) b),
+      leb-true _ _ (and-right (leb 1 (n .position)) (leb (n .position) (n .bytes)) b),
+    )
+
+    others : (n .refusal ≡ 2 → ⊥) → (n .refusal ≡ 10 → ⊥) → n .position ≡ 0
+    others two ten = eqb-true (n .position) 0 (rw (ne-eqb (n .refusal) 2 two, ne-eqb (n .refusal) 10 ten) at e)
+
+call-positioned : (number : ℕ) → 17 ≤ number → Positioned (numbers number 0 0 0 0 0)
+unfolding positionRanged
+call-positioned number l =
+    positioned (numbers number 0 0 0 0 0) (rw (ne-eqb number 2 (λ e. omega arith), ne-eqb number 10 (λ e. omega arith)))
+
+table-positioned : (v : Verdict) → InTable v → Positioned (numbersOf v)
+unfolding numbersOf positionRanged
+table-positioned v (isOpen lines bytes) = positioned (numbers 0 0 0 0 lines bytes) refl
+table-positioned v (D.accepts lines bytes) = positioned (numbers 0 0 0 0 lines bytes) refl
+table-positioned v (byRule number field position lines bytes is named p) =
+    positioned (numbers number (lines + 1) field position lines bytes) p
+table-positioned v (ofCall number l m) = call-positioned number l
+
+report-positioned : (r : ReportAnswer) → ReportInTable r → Positioned (reportSaid r)
+unfolding reportSaid positionRanged
+report-positioned r (D.writes lines bytes) = positioned (numbers 0 0 0 0 lines bytes) refl
+report-positioned r (refuses q number l m e) = rw e (call-positioned number (omega arith))
+
+pub every-answer-positioned : D.EveryAnswerPositioned
+every-answer-positioned = (
+  (λ s piece r all c. table-positioned (said (r .answer)) (one-number .0 s piece r all c)),
+  (λ s r c. table-positioned (finallySaid (r .answer)) (one-number .1 s r c)),
+  (λ s before r after c. report-positioned r (one-number .2 s before r after c)),
+)
+
 -- a state in range with no refusal is the one that an empty piece leaves
-opened-again : (s : State) → s .finished ≡ false → s .rule ≡ 0 → s .field ≡ 0 → openOf (s .hot) (s .tally) .state ≡ s
+opened-again : (s : State) → s .finished ≡ false → s .rule ≡ 0 → s .field ≡ 0 → s .position ≡ 0
+    → openOf (s .hot) (s .tally) .state ≡ s
 unfolding openOf
-opened-again s d z f = λ i. record { hot = s .hot; rule = sym z i; field = sym f i; finished = sym d i; tally = s .tally }
+opened-again s d z f p =
+    λ i. record { hot = s .hot; rule = sym z i; field = sym f i; position = sym p i; finished = sym d i; tally = s .tally }
 
 empty-left : (s : State) → checkOf s [] .state ≡ s
 unfolding runOf
@@ -356,7 +401,7 @@ empty-left s = go (rangedOf s) refl (s .finished) refl (eqb (s .rule) 0) refl
     go true e false d false q = ap (λ x. x .state) (check-kept s [] e d (eqb-false (s .rule) 0 q))
     go true e false d true q =
         let none = eqb-true (s .rule) 0 q in
-        ap (λ x. x .state) (check-run s [] e d none) ∙ opened-again s d none (no-field s e none)
+        ap (λ x. x .state) (check-run s [] e d none) ∙ opened-again s d none (no-field s e none) (no-position s e none)
 
 pub empty-piece : D.EmptyPiece
 empty-piece s r c = ap (λ x. x .state) (c .exact) ∙ empty-left s

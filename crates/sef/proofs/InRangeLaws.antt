@@ -7,7 +7,7 @@ use native.Mathlib.Omega.{arith}
 use lib.Dec.{eqb}
 use borrow.Author.Tests.{eqb-true, eqb-false}
 use Rattle.layout.specs.Pick.{pick}
-use Rattle.line.specs.Machine.{mostBars}
+use Rattle.line.specs.Machine.{mostBars, positionOf}
 use Rattle.sef.specs.Calls.{stateOf, openOf, stoppedOf, judgedOne, runOf, fresh, keptOf, unchanged, checkOf, finalAnswerOf}
 use Rattle.sef.specs.Calls.{closedOf, finallyUnchanged, finishOf}
 use Rattle.sef.specs.Ranges.{withinTo, lineRanged, hotRanged, isRule, refusalRanged, tallyRanged, rangedOf, Held}
@@ -21,7 +21,7 @@ use Rattle.sef.specs.declared.answers.Finished.{Finished}
 use Rattle.sef.specs.declared.answers.Answer.the-variants as Piece
 use Rattle.sef.specs.declared.answers.FinalAnswer.the-variants as Final
 use Rattle.sef.proofs.RangeLaws.{open-ranged, broken-ranged, held-of, ranged-by}
-use Rattle.sef.proofs.StepRanges.{judged-fit}
+use Rattle.sef.proofs.StepRanges.{judged-fit, position-ranged}
 use Rattle.sef.proofs.RunLaws.{Comes, opens, stops-by, run-comes}
 
 pub fresh-ranged : rangedOf fresh ≡ true
@@ -31,7 +31,7 @@ fresh-ranged = refl
 -- What a piece comes to.
 opened-ranged : (h : Hot) (t : Tally) → Held h t → rangedOf (openOf h t .state) ≡ true
 unfolding openOf
-opened-ranged h t d = ranged-by (stateOf h 0 0 false t) (d .fit) (d .tally) (open-ranged (h .bytes) (d .withinLimit))
+opened-ranged h t d = ranged-by (stateOf h 0 0 0 false t) (d .fit) (d .tally) (open-ranged (h .bytes) (d .withinLimit))
 
 -- the refusing byte is judged too
 judged-tally : (h : Hot) (t : Tally) → Held h t → TallyFit t (h .bytes + 1)
@@ -47,9 +47,11 @@ pub stopped-ranged : (h : Hot) (t : Tally) (rule field : ℕ) → Held h t → i
     → rangedOf (stoppedOf h t rule field .state) ≡ true
 unfolding stoppedOf
 stopped-ranged h t rule field d is named =
-    ranged-by (stateOf (judgedOne h) rule field false t) (judged-fit h (d .fit) (d .withinLimit) (h .field) (omega (arith, d .fit .length)) (d .fit .wrong) (d .fit .value))
+    ranged-by (stateOf (judgedOne h) rule field (positionOf h rule) false t)
+    (judged-fit h (d .fit) (d .withinLimit) (h .field) (omega (arith, d .fit .length)) (d .fit .wrong) (d .fit .value))
     (judged-tally h t d)
-    (broken-ranged rule field (h .bytes + 1) is named)
+    (broken-ranged rule field (positionOf h rule) (h .bytes + 1)
+    (record { ruleIs = is; fieldIn = named; positionIn = position-ranged h (d .fit) rule }))
 
 comes-ranged : (c : Checked) → Comes c → rangedOf (c .state) ≡ true
 comes-ranged c (opens h t d) = opened-ranged h t d

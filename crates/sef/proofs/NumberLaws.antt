@@ -9,7 +9,7 @@ use Rattle.rules.specs.Rules.{Fault, clear, breaks, Rule, rules, firstBroken, f
 
 data Numbered : Fault → Type 0 where
   no-rule : Numbered clear
-  a-rule : {n f : ℕ} → 1 ≤ n → Numbered (breaks n f)
+  a-rule : {n f p : ℕ} → 1 ≤ n → Numbered (breaks n f p)
 
 pick-numbered : (t : Bool) (a b : Fault) → Numbered a → Numbered b → Numbered (pick t a b)
 pick-numbered true a b p q = p
@@ -35,9 +35,9 @@ module _ (seen : List ℕ) (b : ℕ) where
       pick-numbered (full seen) _ _ (a-rule (omega arith))
       (pick-numbered (complete seen) _ _ (a-rule (omega arith)) (first-numbered seen b rules rules-numbered))
 
-  pub fault-number : (n f : ℕ) → fault seen b ≡ breaks n f → 1 ≤ n
-  fault-number n f e = go (fault seen b) fault-numbered e
+  pub fault-number : (n f p : ℕ) → fault seen b ≡ breaks n f p → 1 ≤ n
+  fault-number n f p e = go (fault seen b) fault-numbered e
     where
-      go : (t : Fault) → Numbered t → t ≡ breaks n f → 1 ≤ n
+      go : (t : Fault) → Numbered t → t ≡ breaks n f p → 1 ≤ n
       go t no-rule q = absurd (let z : _≡_ {A = ℕ} 0 1 = cc in omega arith)
-      go t (a-rule {n = k} {f = g} one) q = let e : k ≡ n = cc in omega arith
+      go t (a-rule {n = k} one) q = let e : k ≡ n = cc in omega arith

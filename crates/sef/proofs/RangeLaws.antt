@@ -15,8 +15,8 @@ use Rattle.rules.specs.Rules.{byteLimit}
 use Rattle.rules.proofs.TestLaws.{both, and-left, and-right, and-false}
 use Rattle.field.specs.Streaming.{cap}
 use Rattle.line.specs.Machine.{HotFit, mostBars, withoutData}
-use Rattle.sef.specs.Ranges.{withinTo, lineRanged, hotRanged, isRule, refusalRanged, tallyRanged, rangedOf, TallyFit}
-use Rattle.sef.specs.Ranges.{Held}
+use Rattle.sef.specs.Ranges.{withinTo, lineRanged, hotRanged, isRule, positionRanged, refusalRanged, tallyRanged}
+use Rattle.sef.specs.Ranges.{rangedOf, TallyFit, Held}
 use Rattle.line.specs.declared.hot.Hot.{Hot}
 use Rattle.sef.specs.declared.state.State.{State}
 use Rattle.sef.specs.declared.state.Tally.{Tally}
@@ -130,7 +130,7 @@ tally-ranged t m f =
     )
 
 -- The refusal that is kept.
-pub open-ranged : (bytes : ℕ) → bytes ≤ byteLimit → refusalRanged 0 0 bytes ≡ true
+pub open-ranged : (bytes : ℕ) → bytes ≤ byteLimit → refusalRanged 0 0 0 bytes ≡ true
 unfolding refusalRanged
 open-ranged bytes l = rw (le-leb bytes byteLimit l)
 
@@ -149,31 +149,52 @@ not-of-call n e l m =
 pub rule-some : (rule : ℕ) → isRule rule ≡ true → rule ≡ 0 → ⊥
 rule-some rule e z = both e (rw z)
 
-pub broken-ranged : (rule field bytes : ℕ) → isRule rule ≡ true → field ≤ mostBars → refusalRanged rule field bytes ≡ true
-unfolding refusalRanged
-broken-ranged rule field bytes is named = rw (ne-eqb rule 0 (rule-some rule is), is, le-leb field mostBars named)
+-- a rule is broken, and this is what its refusal names, at so many bytes judged
+pub record Names (rule field position bytes : ℕ) : Type 0 where
+  pub ruleIs : isRule rule ≡ true
+  pub fieldIn : field ≤ mostBars
+  pub positionIn : positionRanged rule position bytes ≡ true
 
-record Unbroken (field bytes : ℕ) : Type 0 where
-  none : field ≡ 0
+pub broken-ranged : (rule field position bytes : ℕ) → Names rule field position bytes
+    → refusalRanged rule field position bytes ≡ true
+unfolding refusalRanged
+broken-ranged rule field position bytes n =
+    rw (ne-eqb rule 0 (rule-some rule (n .ruleIs)), n .ruleIs, le-leb field mostBars (n .fieldIn), n .positionIn)
+
+record Unbroken (field position bytes : ℕ) : Type 0 where
+  noField : field ≡ 0
+  noPosition : position ≡ 0
   limit : bytes ≤ byteLimit
 
-unbroken : (rule field bytes : ℕ) → rule ≡ 0 → refusalRanged rule field bytes ≡ true → Unbroken field bytes
+unbroken : (rule field position bytes : ℕ) → rule ≡ 0 → refusalRanged rule field position bytes ≡ true
+    → Unbroken field position bytes
 unfolding refusalRanged
-unbroken rule field bytes z e =
-    let e′ : (eqb field 0 && leb bytes byteLimit) ≡ true = rw (eq-eqb rule 0 z) at e in
+unbroken rule field position bytes z e =
+    let f = eqb field 0 in
+    let p = eqb position 0 in
+    let l = leb bytes byteLimit in
+    let all : (f && p && l) ≡ true = rw (eq-eqb rule 0 z) at e in
+    let two = and-left (f && p) l all in
     record {
-      none = eqb-true field 0 (and-left (eqb field 0) (leb bytes byteLimit) e′);
-      limit = leb-true _ _ (and-right (eqb field 0) (leb bytes byteLimit) e′);
+      noField = eqb-true field 0 (and-left f p two);
+      noPosition = eqb-true position 0 (and-right f p two);
+      limit = leb-true _ _ (and-right (f && p) l all);
     }
 
-broken : (rule field bytes : ℕ) → (rule ≡ 0 → ⊥) → refusalRanged rule field bytes ≡ true
-    → (isRule rule ≡ true) × (field ≤ mostBars)
+broken : (rule field position bytes : ℕ) → (rule ≡ 0 → ⊥) → refusalRanged rule field position bytes ≡ true
+    → Names rule field position bytes
 unfolding refusalRanged
-broken rule field bytes z e =
+broken rule field position bytes z e =
     let r = isRule rule in
     let f = leb field mostBars in
-    let e′ : (r && f) ≡ true = rw (ne-eqb rule 0 z) at e in
-    (and-left r f e′, leb-true _ _ (and-right r f e′))
+    let p = positionRanged rule position bytes in
+    let all : (r && f && p) ≡ true = rw (ne-eqb rule 0 z) at e in
+    let two = and-left (r && f) p all in
+    record {
+      ruleIs = and-left r f two;
+      fieldIn = leb-true _ _ (and-right r f two);
+      positionIn = and-right (r && f) p all;
+    }
 
 -- A state in range, in its parts.
 module _ (s : State) (e : rangedOf s ≡ true) where
@@ -181,7 +202,7 @@ module _ (s : State) (e : rangedOf s ≡ true) where
   hot = hotRanged (s .hot)
 
   abbrev refusal : Bool
-  refusal = refusalRanged (s .rule) (s .field) (s .hot .bytes)
+  refusal = refusalRanged (s .rule) (s .field) (s .position) (s .hot .bytes)
 
   abbrev tally : Bool
   tally = tallyRanged (s .tally) (s .hot .bytes)
@@ -197,22 +218,28 @@ module _ (s : State) (e : rangedOf s ≡ true) where
   unfolding rangedOf
   state-tally = tally-fit (s .tally) (s .hot .bytes) (and-right (hot && refusal) tally e)
 
-  pub kept-refusal : (s .rule ≡ 0 → ⊥) → (isRule (s .rule) ≡ true) × (s .field ≤ mostBars)
-  kept-refusal z = broken (s .rule) (s .field) (s .hot .bytes) z (and-right hot refusal first-two)
+  pub kept-refusal : (s .rule ≡ 0 → ⊥) → Names (s .rule) (s .field) (s .position) (s .hot .bytes)
+  kept-refusal z = broken (s .rule) (s .field) (s .position) (s .hot .bytes) z (and-right hot refusal first-two)
 
   module _ (z : s .rule ≡ 0) where
+    none-broken : Unbroken (s .field) (s .position) (s .hot .bytes)
+    none-broken = unbroken (s .rule) (s .field) (s .position) (s .hot .bytes) z (and-right hot refusal first-two)
+
     pub no-field : s .field ≡ 0
-    no-field = unbroken (s .rule) (s .field) (s .hot .bytes) z (and-right hot refusal first-two) .none
+    no-field = none-broken .noField
+
+    pub no-position : s .position ≡ 0
+    no-position = none-broken .noPosition
 
     pub held-of : Held (s .hot) (s .tally)
     held-of =
         record {
           fit = state-fit;
-          withinLimit = unbroken (s .rule) (s .field) (s .hot .bytes) z (and-right hot refusal first-two) .limit;
+          withinLimit = none-broken .limit;
           tally = state-tally;
         }
 
 pub ranged-by : (s : State) → HotFit (s .hot) → TallyFit (s .tally) (s .hot .bytes)
-    → refusalRanged (s .rule) (s .field) (s .hot .bytes) ≡ true → rangedOf s ≡ true
+    → refusalRanged (s .rule) (s .field) (s .position) (s .hot .bytes) ≡ true → rangedOf s ≡ true
 unfolding rangedOf
 ranged-by s f t r = rw (hot-ranged (s .hot) f, r, tally-ranged (s .tally) (s .hot .bytes) t)

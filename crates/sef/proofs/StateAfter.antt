@@ -20,6 +20,7 @@ use Rattle.rules.proofs.FaultLaws.{complete-last}
 use Rattle.rules.proofs.OccurrenceLaws.{stamps, occurrences}
 use Rattle.rules.proofs.CleanLaws.{Clean, Refused, clean-next, verdict-broken, verdict-stays, standing-refused, standing-clean}
 use Rattle.rules.proofs.CleanLaws.{clean-or-refused, finish-clean, finish-refused}
+use Rattle.line.specs.Machine.{positionOf}
 use Rattle.sef.specs.Answers.{numbersOf, said, finallySaid}
 use Rattle.sef.specs.Calls.{tallyOf, openOf, stoppedOf, runOf, checkOf, keptOf, finalAnswerOf, finishOf}
 use Rattle.sef.specs.Ranges.{rangedOf}
@@ -27,6 +28,7 @@ use Rattle.sef.specs.declared.state.Tally.{Tally}
 use Rattle.sef.specs.declared.answers.Checked.{Checked}
 use Rattle.line.proofs.HotOf.{hotOf}
 use Rattle.line.proofs.Sim.{step-is}
+use Rattle.line.proofs.PositionSim.{position-told}
 use Rattle.sef.proofs.ArrayLaws.{counts-next, stamps-next, occurrences-next}
 use Rattle.sef.proofs.NumberLaws.{fault-number}
 
@@ -46,7 +48,7 @@ runAt seen piece = runOf (hotOf seen) (tallyAt seen) piece
 -- what check gives back after the bytes received: it keeps those that stand, and the refusal
 unfoldable pub checkedBy : Verdict → List ℕ → Checked
 checkedBy (stillOpen l n) stood = openAt stood
-checkedBy (refused n line f l k) stood = stoppedAt stood n f
+checkedBy (refused n line f p l k) stood = stoppedAt stood n f
 checkedBy (accepted l n) stood = openAt stood
 
 unfoldable pub checkedAfter : List ℕ → Checked
@@ -67,28 +69,28 @@ module _ (seen : List ℕ) (b : ℕ) (c : Clean seen) where
   unfolding runOf
   run-clear rest e = rw (step-is seen b c, e, counts-next seen b c e, stamps-next seen b c e, occurrences-next seen b c e)
 
-  run-broken : (rest : List ℕ) (n f : ℕ) → fault seen b ≡ breaks n f → runAt seen (b ∷ rest) ≡ stoppedAt seen n f
+  run-broken : (rest : List ℕ) (n f p : ℕ) → fault seen b ≡ breaks n f p → runAt seen (b ∷ rest) ≡ stoppedAt seen n f
   unfolding runOf
-  run-broken rest n f e = rw (step-is seen b c, e)
+  run-broken rest n f p e = rw (step-is seen b c, e)
 
-  after-broken : (n f : ℕ) → fault seen b ≡ breaks n f → checkedAfter (b ∷ seen) ≡ stoppedAt seen n f
+  after-broken : (n f p : ℕ) → fault seen b ≡ breaks n f p → checkedAfter (b ∷ seen) ≡ stoppedAt seen n f
   unfolding checkedAfter checkedBy
-  after-broken n f e =
-      let v = verdict-broken seen b c n f e in
-      rw (v, standing-refused seen b n _ f _ _ v, standing-clean seen c)
+  after-broken n f p e =
+      let v = verdict-broken seen b c n f p e in
+      rw (v, standing-refused seen b n _ f p _ _ v, standing-clean seen c)
 
 -- what was refused stays refused
-module _ (n line f l k : ℕ) where
-  after-one : (seen : List ℕ) (b : ℕ) → verdict seen ≡ refused n line f l k → checkedAfter (b ∷ seen) ≡ checkedAfter seen
+module _ (n line f p l k : ℕ) where
+  after-one : (seen : List ℕ) (b : ℕ) → verdict seen ≡ refused n line f p l k → checkedAfter (b ∷ seen) ≡ checkedAfter seen
   unfolding checkedAfter
   after-one seen b e =
-      let v = verdict-stays seen b n line f l k e in
-      rw (v, e, standing-refused seen b n line f l k v)
+      let v = verdict-stays seen b n line f p l k e in
+      rw (v, e, standing-refused seen b n line f p l k v)
 
-  after-more : (piece seen : List ℕ) → verdict seen ≡ refused n line f l k
+  after-more : (piece seen : List ℕ) → verdict seen ≡ refused n line f p l k
       → checkedAfter (reverseAux piece seen) ≡ checkedAfter seen
   after-more [] seen e = refl
-  after-more (b ∷ piece) seen e = after-more piece (b ∷ seen) (verdict-stays seen b n line f l k e) ∙ after-one seen b e
+  after-more (b ∷ piece) seen e = after-more piece (b ∷ seen) (verdict-stays seen b n line f p l k e) ∙ after-one seen b e
 
 run-after : (piece seen : List ℕ) → Clean seen → runAt seen piece ≡ checkedAfter (reverseAux piece seen)
 run-after [] seen c = unfold runOf in sym (after-clean seen c)
@@ -98,13 +100,17 @@ run-after (b ∷ piece) seen c = go (fault seen b) refl (λ e. run-after piece (
         → (fault seen b ≡ clear → runAt (b ∷ seen) piece ≡ checkedAfter (reverseAux piece (b ∷ seen)))
         → runAt seen (b ∷ piece) ≡ checkedAfter (reverseAux piece (b ∷ seen))
     go clear e ih = run-clear seen b c piece e ∙ ih e
-    go (breaks n f) e ih =
-        run-broken seen b c piece n f e
-        ∙ sym (after-more n _ f _ _ piece (b ∷ seen) (verdict-broken seen b c n f e) ∙ after-broken seen b c n f e)
+    go (breaks n f p) e ih =
+        run-broken seen b c piece n f p e
+        ∙ sym (after-more n _ f p _ _ piece (b ∷ seen) (verdict-broken seen b c n f p e) ∙ after-broken seen b c n f p e)
+
+-- the position that is kept is the one that the rules give
+refused-position : (seen : List ℕ) (r : Refused seen) → positionOf (hotOf (r .before)) (r .number) ≡ r .position
+refused-position seen r = position-told (r .before) (r .byte) (r .number) (r .named) (r .position) (r .broken)
 
 -- The calls, at the state of the bytes received, which is in range.
 refused-broken : (seen : List ℕ) (r : Refused seen) → r .number ≡ 0 → ⊥
-refused-broken seen r z = omega (arith, fault-number (r .before) (r .byte) (r .number) (r .named) (r .broken))
+refused-broken seen r z = omega (arith, fault-number (r .before) (r .byte) (r .number) (r .named) (r .position) (r .broken))
 
 module _ (seen : List ℕ) (ranged : rangedOf (checkedAfter seen .state) ≡ true) where
   clean-ranged : Clean seen → rangedOf (openAt seen .state) ≡ true
@@ -128,7 +134,7 @@ module _ (seen : List ℕ) (ranged : rangedOf (checkedAfter seen .state) ≡ tru
   check-after piece =
       ⊎-elim (λ c. rw (after-clean seen c) (open-joins piece c ∙ run-after piece seen c))
       (λ r. ap (λ t. checkOf (t .state) piece) (after-refused seen r) ∙ stopped-joins piece r
-      ∙ sym (after-more (r .number) _ (r .named) _ _ piece seen (r .says) ∙ after-refused seen r))
+      ∙ sym (after-more (r .number) _ (r .named) (r .position) _ _ piece seen (r .says) ∙ after-refused seen r))
       (clean-or-refused seen)
 
   -- finish
@@ -148,7 +154,8 @@ module _ (seen : List ℕ) (ranged : rangedOf (checkedAfter seen .state) ≡ tru
       (unfold stoppedOf finalAnswerOf keptOf finallySaid in
       rw (
         ne-eqb (r .number) 0 (refused-broken seen r),
-        finish-refused seen _ _ _ _ _ (r .says),
+        refused-position seen r,
+        finish-refused seen _ _ _ _ _ _ (r .says),
         add-one (length (lines (r .before))),
         add-one (length (r .before)),
       ))
@@ -164,7 +171,7 @@ module _ (seen : List ℕ) (ranged : rangedOf (checkedAfter seen .state) ≡ tru
 module _ (seen : List ℕ) where
   said-stopped : (r : Refused seen) → said (stoppedAt (r .before) (r .number) (r .named) .answer) ≡ verdict seen
   unfolding stoppedOf said
-  said-stopped r = rw (r .says, add-one (length (lines (r .before))), add-one (length (r .before)))
+  said-stopped r = rw (r .says, refused-position seen r, add-one (length (lines (r .before))), add-one (length (r .before)))
 
   said-open : Clean seen → said (openAt seen .answer) ≡ verdict seen
   unfolding openOf said
@@ -202,7 +209,7 @@ module _ (seen : List ℕ) where
     where
       go : (v : Verdict) → checkedBy v (standing seen) .state .tally .counts ≡ countsOfRows (rows (standing seen))
       go (stillOpen l n) = unfold checkedBy openOf in refl
-      go (refused n line f l k) = unfold checkedBy stoppedOf in refl
+      go (refused n line f p l k) = unfold checkedBy stoppedOf in refl
       go (accepted l n) = unfold checkedBy openOf in refl
 
   pub open-after : checkedAfter seen .state .finished ≡ false
@@ -211,5 +218,5 @@ module _ (seen : List ℕ) where
     where
       go : (v : Verdict) → checkedBy v (standing seen) .state .finished ≡ false
       go (stillOpen l n) = unfold checkedBy openOf in refl
-      go (refused n line f l k) = unfold checkedBy stoppedOf in refl
+      go (refused n line f p l k) = unfold checkedBy stoppedOf in refl
       go (accepted l n) = unfold checkedBy openOf in refl

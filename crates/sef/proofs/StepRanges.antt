@@ -1,30 +1,31 @@
 -- A step keeps within the ranges: from a hot part in range it goes on to one in range, or breaks a rule at a field of
 -- the line.
 use mathlib.Core.Path.{_≡_, refl}
-use mathlib.Core.Bool.{Bool, true, false}
+use mathlib.Core.Bool.{Bool, true, false, _&&_}
 use mathlib.Core.List.{List}
 use Prim.Native.Nat.{ℕ, _+_, _<_, _≤_}
 use native.Mathlib.Omega.{arith}
 use lib.Dec.{T, eqb, leb, ltb, leb→le, lit≤}
-use borrow.Author.Tests.{eqb-true, eqb-false, leb-false, ltb-false}
+use borrow.Author.Tests.{eqb-true, eqb-false, le-leb, leb-false, ltb-false}
 use Rattle.layout.specs.Pick.{pick}
 use Rattle.layout.specs.Rows.{rowCount, fields, mostFields, isClosing}
 use Rattle.layout.specs.Kinds.{kind}
 use Rattle.layout.specs.Packed.{kindNumber, mostKind}
 use Rattle.rules.specs.Rules.{byteLimit}
-use Rattle.rules.proofs.TestLaws.{pick-le}
-use Rattle.field.specs.Streaming.{FieldFit, cap, emptyFault, digitsFault, contentFault, numberFault, textFault, faultOf}
+use Rattle.rules.proofs.TestLaws.{split, pick-le}
+use Rattle.field.specs.Streaming.{FieldFit, cap, wrongAt, emptyFault, digitsFault, contentFault, numberFault, textFault, faultOf}
 use Rattle.field.specs.declared.bytes.Field.{Field}
 use Rattle.line.specs.Machine.{HotFit, judgedWith, mostBars, withoutData, grownOf, movedOf, endedOf, sinceOf, codeBarOf, saysOf}
 use Rattle.line.specs.Machine.{fieldBarOf, barOf}
-use Rattle.line.specs.Machine.{controlOf, inFieldOf, pastOf, startOf, stepOf}
-use Rattle.sef.specs.Ranges.{isRule}
+use Rattle.line.specs.Machine.{controlOf, inFieldOf, pastOf, startOf, stepOf, positionOf}
+use Rattle.sef.specs.Ranges.{isRule, positionRanged}
 use Rattle.line.specs.declared.hot.Hot.{Hot}
 use Rattle.line.specs.declared.step.Step.{Step}
 use Rattle.line.specs.declared.step.Step.the-variants.{Next, Broken}
 use Rattle.layout.proofs.KindLaws.{kind-most}
 use Rattle.layout.proofs.RowLaws.{fields-most}
-use Rattle.field.proofs.LengthLaws.{one-longer, fit-after}
+use Rattle.field.proofs.LengthLaws.{one-longer, wrong-at-le, fit-after}
+use Rattle.field.proofs.WrongLaws.{wrong-at-some}
 use Rattle.line.proofs.RowLaws.{word-row-le}
 use Rattle.sef.proofs.RangeLaws.{OfRule}
 
@@ -209,3 +210,17 @@ step-leads h f ss os b byte = go (leb byteLimit (h .bytes)) refl
         (pick (eqb (h .bars) 0) (startOf h b) (pick (ltb (h .fields) (h .bars)) (pastOf h b) (inFieldOf h ss os b))))
     go true e = stops {rule = 16} {field = 0} refl (omega arith)
     go false e = line-leads h f (leb-false _ _ e) ss os b byte
+
+-- the position that a rule's refusal gives is within the bytes judged
+pub position-ranged : (h : Hot) → HotFit h → (rule : ℕ) → positionRanged rule (positionOf h rule) (h .bytes + 1) ≡ true
+unfolding positionRanged positionOf
+position-ranged h f rule =
+    split (eqb rule 2)
+    (λ t. rw t (within (h .field .length + 1) (omega arith) (omega (arith, f .length))))
+    (λ t. split (eqb rule 10)
+    (λ u. rw (t, u)
+    (within (wrongAt (h .field)) (wrong-at-some (h .field)) (omega (arith, f .length, wrong-at-le (h .field) (f .wrong)))))
+    (λ u. rw (t, u)))
+  where
+    within : (p : ℕ) → 1 ≤ p → p ≤ h .bytes + 1 → (leb 1 p && leb p (h .bytes + 1)) ≡ true
+    within p l m = rw (le-leb 1 p l, le-leb p (h .bytes + 1) m)

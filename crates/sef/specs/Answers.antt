@@ -10,25 +10,25 @@ use Rattle.sef.specs.declared.answers.ReportAnswer.{ReportAnswer}
 use Rattle.sef.specs.declared.answers.ReportAnswer.the-variants as Report
 
 -- "`refusal` is the number, 0 if none; `line` and `field` are the place, 0 if accepted; `lines` is lines ended; `bytes` is bytes
--- judged"
-abbrev pub numbers : ℕ → ℕ → ℕ → ℕ → ℕ → Numbers
-numbers refusal line field lines bytes =
-    record { refusal = refusal; line = line; field = field; lines = lines; bytes = bytes }
+-- judged"; 02, request e: "Every answer then carries a position, 0 for all but 2 and 10"
+abbrev pub numbers : ℕ → ℕ → ℕ → ℕ → ℕ → ℕ → Numbers
+numbers refusal line field position lines bytes =
+    record { refusal = refusal; line = line; field = field; position = position; lines = lines; bytes = bytes }
 
 unfoldable pub numbersOf : Verdict → Numbers
-numbersOf (stillOpen l n) = numbers 0 0 0 l n
-numbersOf (refused number line field l n) = numbers number line field l n
-numbersOf (accepted l n) = numbers 0 0 0 l n
+numbersOf (stillOpen l n) = numbers 0 0 0 0 l n
+numbersOf (refused number line field position l n) = numbers number line field position l n
+numbersOf (accepted l n) = numbers 0 0 0 0 l n
 
 abbrev refusedBy : Numbers → Verdict
-refusedBy n = refused (n .refusal) (n .line) (n .field) (n .lines) (n .bytes)
+refusedBy n = refused (n .refusal) (n .line) (n .field) (n .position) (n .lines) (n .bytes)
 
 -- "These three give line 0, lines ended 0 and bytes judged 0"
 abbrev late : Verdict
-late = refused 17 0 0 0 0
+late = refused 17 0 0 0 0 0
 
 abbrev damaged : Verdict
-damaged = refused 19 0 0 0 0
+damaged = refused 19 0 0 0 0 0
 
 -- the answer to a piece
 unfoldable pub said : Answer → Verdict
@@ -46,6 +46,6 @@ finallySaid Final.Damaged = damaged
 
 -- the answer to a report: "The other answers, 17 to 19 apart, give these two as well", lines ended and bytes judged
 unfoldable pub reportSaid : ReportAnswer → Numbers
-reportSaid (Report.Written l n) = numbers 0 0 0 l n
-reportSaid Report.NoRoom = numbers 18 0 0 0 0
-reportSaid Report.Damaged = numbers 19 0 0 0 0
+reportSaid (Report.Written l n) = numbers 0 0 0 0 l n
+reportSaid Report.NoRoom = numbers 18 0 0 0 0 0
+reportSaid Report.Damaged = numbers 19 0 0 0 0 0

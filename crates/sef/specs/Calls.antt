@@ -8,7 +8,7 @@ use Rattle.layout.specs.Pick.{pick}
 use Rattle.layout.specs.Rows.{rowCount, none, row9999}
 use Rattle.rules.specs.Bytes.{LF}
 use Rattle.field.specs.Streaming.{emptyField}
-use Rattle.line.specs.Machine.{codeKind, codeOnly, judgedWith, entryOf, usedOf, stepOf}
+use Rattle.line.specs.Machine.{codeKind, codeOnly, judgedWith, entryOf, usedOf, stepOf, positionOf}
 use Rattle.line.specs.declared.hot.Hot.{Hot}
 use Rattle.line.specs.declared.step.Step.{Step}
 use Rattle.line.specs.declared.step.Step.the-variants.{Next, Broken}
@@ -48,11 +48,12 @@ tallyWith h n b t =
     tallyOf (countsWith h b (t .counts)) (stampsWith h n b (t .stamps)) (occurrencesWith h b (t .stamps) (t .occurrences))
 
 -- A piece, byte by byte.
-abbrev pub stateOf : Hot → ℕ → ℕ → Bool → Tally → State
-stateOf h rule field finished t = record { hot = h; rule = rule; field = field; finished = finished; tally = t }
+abbrev pub stateOf : Hot → ℕ → ℕ → ℕ → Bool → Tally → State
+stateOf h rule field position finished t =
+    record { hot = h; rule = rule; field = field; position = position; finished = finished; tally = t }
 
 unfoldable pub openOf : Hot → Tally → Checked
-openOf h t = record { answer = Piece.Open (h .lines) (h .bytes); state = stateOf h 0 0 false t }
+openOf h t = record { answer = Piece.Open (h .lines) (h .bytes); state = stateOf h 0 0 0 false t }
 
 -- the refusing byte is judged, and changes nothing else
 abbrev pub judgedOne : Hot → Hot
@@ -60,9 +61,10 @@ judgedOne h = judgedWith h (h .field)
 
 unfoldable pub stoppedOf : Hot → Tally → ℕ → ℕ → Checked
 stoppedOf h t rule field =
+    let position = positionOf h rule in
     record {
-      answer = Piece.Refused (numbers rule (h .lines + 1) field (h .lines) (h .bytes + 1));
-      state = stateOf (judgedOne h) rule field false t;
+      answer = Piece.Refused (numbers rule (h .lines + 1) field position (h .lines) (h .bytes + 1));
+      state = stateOf (judgedOne h) rule field position false t;
     }
 
 abbrev pub onStep : {A : Type 0} → Step → (Hot → A) → (ℕ → ℕ → A) → A
@@ -92,12 +94,13 @@ fresh =
     })
     0
     0
+    0
     false
     (tallyOf (replicate rowCount 0) (replicate rowCount 0) (replicate rowCount 0))
 
 -- the refusal that a state keeps
 unfoldable pub keptOf : State → Numbers
-keptOf s = numbers (s .rule) (s .hot .lines + 1) (s .field) (s .hot .lines) (s .hot .bytes)
+keptOf s = numbers (s .rule) (s .hot .lines + 1) (s .field) (s .position) (s .hot .lines) (s .hot .bytes)
 
 abbrev pub unchanged : Answer → State → Checked
 unchanged a s = record { answer = a; state = s }
@@ -115,11 +118,11 @@ unfoldable pub finalAnswerOf : State → FinalAnswer
 finalAnswerOf s =
     pick (eqb (s .rule) 0)
     (pick (eqb (s .hot .last) row9999) (Final.Accepted (s .hot .lines) (s .hot .bytes))
-    (Final.Refused (numbers 14 (s .hot .lines + 1) 0 (s .hot .lines) (s .hot .bytes))))
+    (Final.Refused (numbers 14 (s .hot .lines + 1) 0 0 (s .hot .lines) (s .hot .bytes))))
     (Final.Refused (keptOf s))
 
 abbrev pub closedOf : State → State
-closedOf s = stateOf (s .hot) (s .rule) (s .field) true (s .tally)
+closedOf s = stateOf (s .hot) (s .rule) (s .field) (s .position) true (s .tally)
 
 abbrev pub finallyUnchanged : FinalAnswer → State → Finished
 finallyUnchanged a s = record { answer = a; state = s }

@@ -16,7 +16,7 @@ use Rattle.rules.specs.Totals.{closingsState, statedBy, linesOf, lastLine, rows
 use Rattle.line.specs.Machine.{mostBars}
 use Rattle.sef.specs.Answers.{numbers, numbersOf, said, finallySaid, reportSaid}
 use Rattle.sef.specs.Calls.{fresh, checkOf}
-use Rattle.sef.specs.Ranges.{isRule, rangedOf}
+use Rattle.sef.specs.Ranges.{isRule, positionRanged, rangedOf}
 use Rattle.sef.specs.Promises.{AllBytes, Reached, Given, Checks, Finishes, Reports}
 use Rattle.sef.specs.declared.state.State.{State}
 use Rattle.sef.specs.declared.answers.Numbers.{Numbers}
@@ -33,7 +33,7 @@ use Rattle.sef.specs.declared.answers.ReportAnswer.the-variants as Repor
 -- Each list of bytes can be handed over, and a finish then says accepted, or refused by a rule: 1 to 16, or 24.
 pub data Answered : Verdict → Type 0 where
   isAccepted : {l n : ℕ} → Answered (accepted l n)
-  isRefused : {number line field l n : ℕ} → isRule number ≡ true → Answered (refused number line field l n)
+  isRefused : {number line field position l n : ℕ} → isRule number ≡ true → Answered (refused number line field position l n)
 
 abbrev pub EveryFileAnswered : Type 0
 EveryFileAnswered =
@@ -43,17 +43,18 @@ EveryFileAnswered =
 
 -- "A refusal has one number of a fixed table, with line and field."
 -- At every state each call's answer is in the table: nothing refused; a rule, 1 to 16 or 24, with the line, lines ended plus 1,
--- and a field; or 17 to 19 alone.
+-- a field and a position (which one, EveryAnswerPositioned says in words); or 17 to 19 alone.
 pub data InTable : Verdict → Type 0 where
   isOpen : (lines bytes : ℕ) → InTable (stillOpen lines bytes)
   accepts : (lines bytes : ℕ) → InTable (accepted lines bytes)
-  byRule : (number field lines bytes : ℕ) → isRule number ≡ true → field ≤ mostBars
-      → InTable (refused number (lines + 1) field lines bytes)
-  ofCall : (number : ℕ) → 17 ≤ number → number ≤ 19 → InTable (refused number 0 0 0 0)
+  byRule : (number field position lines bytes : ℕ) → isRule number ≡ true → field ≤ mostBars
+      → positionRanged number position bytes ≡ true → InTable (refused number (lines + 1) field position lines bytes)
+  ofCall : (number : ℕ) → 17 ≤ number → number ≤ 19 → InTable (refused number 0 0 0 0 0)
 
 pub data ReportInTable : ReportAnswer → Type 0 where
   writes : (lines bytes : ℕ) → ReportInTable (Report.Written lines bytes)
-  refuses : (r : ReportAnswer) (number : ℕ) → 18 ≤ number → number ≤ 19 → reportSaid r ≡ numbers number 0 0 0 0 → ReportInTable r
+  refuses : (r : ReportAnswer) (number : ℕ) → 18 ≤ number → number ≤ 19 → reportSaid r ≡ numbers number 0 0 0 0 0
+      → ReportInTable r
 
 abbrev pub OneNumber : Type 0
 OneNumber =
@@ -75,15 +76,17 @@ AcceptedExactly =
     × ((l n : ℕ) → finallySaid (r .answer) ≡ accepted l n → Follows file)
 
 -- "else the answer names the first place where a rule is broken." Rule 14 is broken by the end of the file.
-abbrev pub FirstPlace : List ℕ → ℕ → ℕ → ℕ → ℕ → ℕ → Type 0
-FirstPlace file number line field lines bytes =
-    FirstBroken file number line field lines bytes ⊎ CutShort file number line field lines bytes
+abbrev pub FirstPlace : List ℕ → ℕ → ℕ → ℕ → ℕ → ℕ → ℕ → Type 0
+FirstPlace file number line field position lines bytes =
+    FirstBroken file number line field position lines bytes ⊎ CutShort file number line field position lines bytes
 
 abbrev pub FirstPlaceNamed : Type 0
 FirstPlaceNamed =
-    (file : List ℕ) (s : State) (r : Finished) → Reached file s → Finishes s r → (number line field lines bytes : ℕ)
-    → (finallySaid (r .answer) ≡ refused number line field lines bytes → FirstPlace file number line field lines bytes)
-    × (FirstPlace file number line field lines bytes → finallySaid (r .answer) ≡ refused number line field lines bytes)
+    (file : List ℕ) (s : State) (r : Finished) → Reached file s → Finishes s r → (number line field position lines bytes : ℕ)
+    → (finallySaid (r .answer) ≡ refused number line field position lines bytes
+    → FirstPlace file number line field position lines bytes)
+    × (FirstPlace file number line field position lines bytes
+    → finallySaid (r .answer) ≡ refused number line field position lines bytes)
 
 -- 3. "A file may come in pieces cut at any bytes; the answer after each piece, the counts per code and the final answer
 -- are those that the rules give for the joined bytes so far."
@@ -167,13 +170,13 @@ abbrev pub ThreeChangeNothing : Type 0
 ThreeChangeNothing =
     ((s : State) (piece : List ℕ) (r : Checked) → AllBytes piece → Checks s piece r
     → (n : ℕ) → numbersOf (said (r .answer)) .refusal ≡ n → 17 ≤ n → n ≤ 19
-    → (numbersOf (said (r .answer)) ≡ numbers n 0 0 0 0) × (r .state ≡ s))
+    → (numbersOf (said (r .answer)) ≡ numbers n 0 0 0 0 0) × (r .state ≡ s))
     × ((s : State) (r : Finished) → Finishes s r
     → (n : ℕ) → numbersOf (finallySaid (r .answer)) .refusal ≡ n → 17 ≤ n → n ≤ 19
-    → (numbersOf (finallySaid (r .answer)) ≡ numbers n 0 0 0 0) × (r .state ≡ s))
+    → (numbersOf (finallySaid (r .answer)) ≡ numbers n 0 0 0 0 0) × (r .state ≡ s))
     × ((s : State) (before : List ℕ) (r : ReportAnswer) (after : List ℕ) → Reports s before r after
     → (n : ℕ) → reportSaid r .refusal ≡ n → 17 ≤ n → n ≤ 19
-    → (reportSaid r ≡ numbers n 0 0 0 0) × (after ≡ before))
+    → (reportSaid r ≡ numbers n 0 0 0 0 0) × (after ≡ before))
 
 -- "A refusal from 1 to 16 is the answer to every later piece until finish has been asked, and to that finish;" 02: "later
 -- numbers given at a bar name its field and hold as 1 to 16 do".
@@ -208,7 +211,19 @@ abbrev pub ReportGivesThem : Type 0
 ReportGivesThem =
     (file : List ℕ) (s : State) (before : List ℕ) (r : ReportAnswer) (after : List ℕ)
     → Given file s → Reports s before r after → reportSaid r .refusal ≡ 0
-    → reportSaid r ≡ numbers 0 0 0 (numbersOf (verdictOf file) .lines) (numbersOf (verdictOf file) .bytes)
+    → reportSaid r ≡ numbers 0 0 0 0 (numbersOf (verdictOf file) .lines) (numbersOf (verdictOf file) .bytes)
+
+-- 02, request e: "Every answer then carries a position, 0 for all but 2 and 10". At every state; for those two it is at least 1
+-- and at most the bytes judged. (Which byte it is, the verdict says: PiecesJoined, FirstPlaceNamed.)
+pub record Positioned (n : Numbers) : Type 0 where
+  pub ofTwoAndTen : (n .refusal ≡ 2) ⊎ (n .refusal ≡ 10) → (1 ≤ n .position) × (n .position ≤ n .bytes)
+  pub ofOthers : (n .refusal ≡ 2 → ⊥) → (n .refusal ≡ 10 → ⊥) → n .position ≡ 0
+
+abbrev pub EveryAnswerPositioned : Type 0
+EveryAnswerPositioned =
+    ((s : State) (piece : List ℕ) (r : Checked) → AllBytes piece → Checks s piece r → Positioned (numbersOf (said (r .answer))))
+    × ((s : State) (r : Finished) → Finishes s r → Positioned (numbersOf (finallySaid (r .answer))))
+    × ((s : State) (before : List ℕ) (r : ReportAnswer) (after : List ℕ) → Reports s before r after → Positioned (reportSaid r))
 
 -- "An empty piece alters nothing." At every state.
 abbrev pub EmptyPiece : Type 0

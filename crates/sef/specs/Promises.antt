@@ -55,4 +55,4 @@ pub record Reports (s : State) (before : List ℕ) (r : ReportAnswer) (after : L
   pub buffer : after ≡ reportedOf s before
   pub counted : (file : List ℕ) → Given file s → reportSaid r .refusal ≡ 0 → after ≡ countsOf file ++ drop rowCount before
   pub given : (file : List ℕ) → Given file s → reportSaid r .refusal ≡ 0
-      → reportSaid r ≡ numbers 0 0 0 (numbersOf (verdictOf file) .lines) (numbersOf (verdictOf file) .bytes)
+      → reportSaid r ≡ numbers 0 0 0 0 (numbersOf (verdictOf file) .lines) (numbersOf (verdictOf file) .bytes)

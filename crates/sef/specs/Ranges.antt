@@ -35,10 +35,16 @@ hotRanged h =
 abbrev pub isRule : ℕ → Bool
 isRule n = leb 1 n && leb n 16 || eqb n 24
 
--- while no rule is broken no field is named, and the bytes are within the limit
-unfoldable pub refusalRanged : ℕ → ℕ → ℕ → Bool
-refusalRanged rule field bytes =
-    pick (eqb rule 0) (eqb field 0 && leb bytes byteLimit) (isRule rule && leb field mostBars)
+-- 02, request e: "a position, 0 for all but 2 and 10", of a byte that has been judged
+unfoldable pub positionRanged : ℕ → ℕ → ℕ → Bool
+positionRanged rule position bytes =
+    pick (eqb rule 2 || eqb rule 10) (leb 1 position && leb position bytes) (eqb position 0)
+
+-- while no rule is broken no field is named and no position given, and the bytes are within the limit
+unfoldable pub refusalRanged : ℕ → ℕ → ℕ → ℕ → Bool
+refusalRanged rule field position bytes =
+    pick (eqb rule 0) (eqb field 0 && eqb position 0 && leb bytes byteLimit)
+    (isRule rule && leb field mostBars && positionRanged rule position bytes)
 
 -- what is kept for each row
 unfoldable pub tallyRanged : Tally → ℕ → Bool
@@ -46,7 +52,8 @@ tallyRanged t m = withinTo m (t .counts) rowCount && withinTo m (t .stamps) rowC
 
 unfoldable pub rangedOf : State → Bool
 rangedOf s =
-    hotRanged (s .hot) && refusalRanged (s .rule) (s .field) (s .hot .bytes) && tallyRanged (s .tally) (s .hot .bytes)
+    hotRanged (s .hot) && refusalRanged (s .rule) (s .field) (s .position) (s .hot .bytes)
+    && tallyRanged (s .tally) (s .hot .bytes)
 
 -- what the loop over a piece keeps
 abbrev pub Below : ℕ → List ℕ → Type 0

@@ -3,11 +3,13 @@ ghost use mathlib.Core.Path.{_≡_};
 ghost use Rattle.sef.specs.Answers.{numbers, numbersOf, said, finallySaid, reportSaid};
 use crate::state::State;
 
-// The refusal's number, 0 if none; its line and field, 0 if none; lines ended and bytes judged.
+// The refusal's number, 0 if none; its line and field, 0 if none; the position in the field, 0 for all but 2 and 10; lines ended
+// and bytes judged.
 pub struct Numbers {
     pub refusal: u64,
     pub line: u64,
     pub field: u64,
+    pub position: u64,
     pub lines: u64,
     pub bytes: u64,
 }
@@ -66,12 +68,13 @@ const DAMAGED: u64 = 19;
 
 // Nothing is refused.
 fn unrefused(lines: u64, bytes: u64) -> Numbers
-    ensures { λ r. ⌜ r ≡ numbers 0 0 0 lines bytes ⌝ }
+    ensures { λ r. ⌜ r ≡ numbers 0 0 0 0 lines bytes ⌝ }
 {
     Numbers {
         refusal: 0,
         line: 0,
         field: 0,
+        position: 0,
         lines,
         bytes,
     }
@@ -79,12 +82,13 @@ fn unrefused(lines: u64, bytes: u64) -> Numbers
 
 // A call is refused, and no line of the file: all but the number is 0.
 fn call_refused(refusal: u64) -> Numbers
-    ensures { λ r. ⌜ r ≡ numbers refusal 0 0 0 0 ⌝ }
+    ensures { λ r. ⌜ r ≡ numbers refusal 0 0 0 0 0 ⌝ }
 {
     Numbers {
         refusal,
         line: 0,
         field: 0,
+        position: 0,
         lines: 0,
         bytes: 0,
     }

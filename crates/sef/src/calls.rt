@@ -43,6 +43,7 @@ pub fn start() -> State
         },
         rule: 0,
         field: 0,
+        position: 0,
         finished: false,
         tally: Tally {
             counts: [0; ROWS],
@@ -95,6 +96,7 @@ fn final_answer(s: State) -> FinalAnswer
         refusal: CUT_SHORT,
         line: h.lines + 1,
         field: 0,
+        position: 0,
         lines: h.lines,
         bytes: h.bytes,
     })

@@ -9,6 +9,7 @@ use crate::state::State;
 use crate::state::Tally;
 use line::hot::Hot;
 use line::step::Step;
+use line::step::position;
 
 // Nothing is refused so far.
 pub fn opened(h: Hot, tally: Tally) -> Checked
@@ -20,6 +21,7 @@ pub fn opened(h: Hot, tally: Tally) -> Checked
             hot: h,
             rule: 0,
             field: 0,
+            position: 0,
             finished: false,
             tally,
         },
@@ -36,6 +38,7 @@ pub fn kept(s: State) -> Numbers
         refusal: s.rule,
         line: h.lines + 1,
         field: s.field,
+        position: s.position,
         lines: h.lines,
         bytes: h.bytes,
     }
@@ -46,6 +49,7 @@ fn stopped(h: Hot, tally: Tally, rule: u64, field: u64) -> Checked
     requires { ⌜ HotFit h ⌝ }
     ensures { λ r. ⌜ r ≡ stoppedOf h tally rule field ⌝ }
 {
+    let position = position(h, rule);
     let mut hot = h;
     hot.bytes = h.bytes + 1;
     Checked {
@@ -53,6 +57,7 @@ fn stopped(h: Hot, tally: Tally, rule: u64, field: u64) -> Checked
             refusal: rule,
             line: h.lines + 1,
             field,
+            position,
             lines: h.lines,
             bytes: h.bytes + 1,
         }),
@@ -60,6 +65,7 @@ fn stopped(h: Hot, tally: Tally, rule: u64, field: u64) -> Checked
             hot,
             rule,
             field,
+            position,
             finished: false,
             tally,
         },

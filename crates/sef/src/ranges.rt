@@ -1,16 +1,19 @@
 // Every stored number within its range (docs/STATE.md): what refusal 19 asks.
 ghost use mathlib.Core.Path.{_≡_};
 ghost use Rattle.layout.specs.Rows.{rowCount};
-ghost use Rattle.sef.specs.Ranges.{withinTo, lineRanged, hotRanged, isRule, refusalRanged, tallyRanged, rangedOf};
+ghost use Rattle.sef.specs.Ranges.{withinTo, lineRanged, hotRanged, isRule, positionRanged};
+ghost use Rattle.sef.specs.Ranges.{refusalRanged, tallyRanged, rangedOf};
 use crate::state::State;
 use crate::state::Tally;
 use field::bytes::CAP;
+use field::fault::WRONG_CHARACTERS;
 use field::fault::WRONG_CHECK_DIGIT;
 use layout::kinds::KIND_MOST;
 use layout::rows::FIELDS_MOST;
 use layout::rows::ROWS;
 use line::hot::Hot;
 use line::order::WITHOUT_DATA;
+use line::step::CONTROL_BYTE;
 use line::step::TOO_LONG;
 use rules::BYTE_LIMIT;
 
@@ -66,14 +69,24 @@ fn is_rule(n: u64) -> bool
     (1 <= n) & (n <= TOO_LONG) | (n == WRONG_CHECK_DIGIT)
 }
 
-// The refusal that is kept: while no rule is broken no field is named, and the bytes are within the limit.
-fn refusal_ranged(rule: u64, field: u64, bytes: u64) -> bool
-    ensures { λ t. ⌜ t ≡ refusalRanged rule field bytes ⌝ }
+// Only 2 and 10 give a position, and it is that of a byte that has been judged.
+fn position_ranged(rule: u64, position: u64, bytes: u64) -> bool
+    ensures { λ t. ⌜ t ≡ positionRanged rule position bytes ⌝ }
+{
+    if (rule == CONTROL_BYTE) | (rule == WRONG_CHARACTERS) {
+        return (1 <= position) & (position <= bytes);
+    }
+    position == 0
+}
+
+// The refusal that is kept: while no rule is broken no field is named and no position given, and the bytes are within the limit.
+fn refusal_ranged(rule: u64, field: u64, position: u64, bytes: u64) -> bool
+    ensures { λ t. ⌜ t ≡ refusalRanged rule field position bytes ⌝ }
 {
     if rule == 0 {
-        return (field == 0) & (bytes <= BYTE_LIMIT);
+        return (field == 0) & (position == 0) & (bytes <= BYTE_LIMIT);
     }
-    is_rule(rule) & (field <= BARS_MOST)
+    is_rule(rule) & (field <= BARS_MOST) & position_ranged(rule, position, bytes)
 }
 
 // What is kept for each row.
@@ -91,5 +104,7 @@ pub fn ranged(s: State) -> bool
 {
     let h = s.hot;
     let tally = s.tally;
-    hot_ranged(h) & refusal_ranged(s.rule, s.field, h.bytes) & tally_ranged(tally, h.bytes)
+    hot_ranged(h)
+        & refusal_ranged(s.rule, s.field, s.position, h.bytes)
+        & tally_ranged(tally, h.bytes)
 }

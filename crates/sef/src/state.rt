@@ -11,9 +11,10 @@ pub struct Tally {
 
 pub struct State {
     pub hot: Hot,
-    // the rule that is broken, 0 while none is, and the field that its refusal names
+    // the rule that is broken, 0 while none is, the field that its refusal names, and the position in it
     pub rule: u64,
     pub field: u64,
+    pub position: u64,
     // whether finish has been asked
     pub finished: bool,
     pub tally: Tally,

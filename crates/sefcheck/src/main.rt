@@ -1,4 +1,4 @@
-// Standard input to six lines: the checker's final answer. Everything that matters is in `sef`.
+// Standard input to seven lines: the checker's final answer. Everything that matters is in `sef`.
 use libc::STDIN_FILENO;
 use libc::STDOUT_FILENO;
 use sef::answers::Numbers;
@@ -23,6 +23,7 @@ fn print(n: Numbers) {
     line(b"refusal=", n.refusal);
     line(b"line=", n.line);
     line(b"field=", n.field);
+    line(b"byte=", n.position);
     line(b"lines=", n.lines);
     line(b"bytes=", n.bytes);
 }
