@@ -6,6 +6,7 @@ pub mod ListLaws
 pub mod RowLaws
 pub mod ParentLaws
 pub mod BlockLaws
+pub mod StartLaws
 pub mod CodeLaws
 pub mod KindLaws
 pub mod Choices

@@ -1,10 +1,10 @@
 -- 01, "The 98 rows", as data in 01's order, and what the table says of a row. A row goes by its number, from 0.
 use mathlib.Core.Bool.{Bool, _&&_}
 use mathlib.Core.List.{List, [], _∷_, _++_}
-use Prim.Native.Nat.{ℕ, zero, suc, _-_, _/_, _%_}
+use Prim.Native.Nat.{ℕ, zero, suc, _+_, _-_, _/_, _%_}
 use Prim.Native.String.{String}
 use lib.Dec.{eqb, leb}
-use lib.ListN.{getD}
+use lib.ListN.{length, getD}
 use Rattle.layout.specs.Pick.{pick}
 use Rattle.layout.specs.Text.{bytes, textNumber}
 
@@ -163,6 +163,23 @@ block9 =
 unfoldable pub rowTable : List Listed
 rowTable = block0 ++ blockC ++ blockE ++ blockF ++ blockG ++ blockH ++ block9
 
+-- where the rows of each block begin, and past the last block the number of rows
+abbrev startsFrom : ℕ → List ℕ → List ℕ
+startsFrom r [] = r ∷ []
+startsFrom r (n ∷ sizes) = r ∷ startsFrom (r + n) sizes
+
+unfoldable pub blockStarts : List ℕ
+blockStarts =
+    startsFrom 0
+    (length block0 ∷
+    length blockC ∷
+    length blockE ∷
+    length blockF ∷
+    length blockG ∷
+    length blockH ∷
+    length block9 ∷
+    [])
+
 -- of a line whose code has not come, or is none of these, only field 1 may still come
 abbrev pub noRow : Listed
 noRow = row "" 1 0 anyNumber
@@ -193,6 +210,10 @@ limit r = pick (eqb (occurrence r) P) (pick (eqb (level r) 2) anyNumber 1) (occu
 -- "Blocks come in the order 0, C, E, F, G, H, 9": a block goes by its place in this order
 unfoldable pub blockLetters : List ℕ
 blockLetters = bytes "0CEFGH9"
+
+-- the number of blocks
+abbrev pub blocks : ℕ
+blocks = 7
 
 unfoldable pub placeOf : ℕ → List ℕ → ℕ
 placeOf x [] = 0

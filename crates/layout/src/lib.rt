@@ -1,4 +1,5 @@
-// The layout as data: the rows, their parents, the kinds of their fields, and the row of a code.
+// The layout as data: the rows, their blocks and parents, the kinds of their fields, and the row of a code.
+pub mod blocks;
 pub mod codes;
 pub mod kinds;
 pub mod parents;
