@@ -1,6 +1,7 @@
 -- 01's cases of one rule each: the definitions give the numbers that 01 says.
 use mathlib.Core.Path.{_≡_, refl}
 use mathlib.Core.List.{map}
+use Rattle.layout.specs.Lists
 use Rattle.layout.specs.Text
 use Rattle.layout.specs.Rows
 use Rattle.layout.specs.Sheets
@@ -12,9 +13,12 @@ use Rattle.rules.specs.CheckDigits
 use Rattle.rules.specs.Fields
 use Rattle.rules.specs.Position
 use Rattle.rules.specs.Rules
-use Rattle.rules.specs.BareCases.{rowNamed, rowsNamed, placed, dueAfter, lineCases, numberOf, brokenAfter, dated, byteCases}
+use Rattle.rules.specs.Verdict
+use Rattle.rules.specs.BareCases.{rowNamed, rowsNamed, placed, dueAfter, lineCases}
+use Rattle.rules.specs.BareCases.{numberOf, brokenAfter, dated, byteCases}
 use Rattle.rules.specs.BareCases.{digitAfter, brokenDigits, digitCases, checkedBarCases}
 use Rattle.rules.specs.BareCases.{numberAndPosition, placedAfter, firstWrong, positionCases, positionByteCases}
+use Rattle.rules.specs.BareCases.{totalsAfter, totalsIn, totalsCases}
 
 pub line-cases : map (λ c. c .says) lineCases ≡ map (λ c. c .given) lineCases
 unfolding lineCases rowNamed rowsNamed placed dueAfter Text.bytes Text.codeNumber Text.textNumber Rows.rowTable
@@ -72,3 +76,12 @@ unfolding positionByteCases numberAndPosition placedAfter Text.bytes Text.codeNu
     Rules.breaks5 Rules.breaks6 Rules.breaks7 Rules.breaks8 Rules.breaks9 Rules.breaks10 Rules.breaks11
     Rules.breaks12 Rules.breaks13 Rules.breaks24 Rules.controlByte Rules.wrongByte Position.position Rules.rules Rules.firstBroken
 position-byte-cases = refl
+
+pub totals-cases : map (λ c. c .says) totalsCases ≡ map (λ c. c .given) totalsCases
+unfolding totalsCases totalsAfter totalsIn rowNamed rowsNamed Lists.tabulate Text.bytes Text.codeNumber Text.textNumber
+    Rows.rowTable Rows.listed Rows.code Rows.blockLetters Rows.placeOf Rows.block Rows.rowFrom Rows.rowOfCode
+    Bytes.cut Bytes.lines Bytes.lineAtHand Bytes.part Bytes.field Bytes.rowOfWord Bytes.rowOf Bytes.rows Bytes.bars
+    Counts.linesOfBlock Counts.totalsOfRows Rules.isLastLine Rules.complete Rules.full Rules.breaks1 Rules.rules
+    Rules.firstBroken Rules.faultBy Rules.fault Verdict.judged Verdict.verdictAfter Verdict.verdict Verdict.unrefused
+    Verdict.standing Verdict.totals Verdict.totalsOf
+totals-cases = refl

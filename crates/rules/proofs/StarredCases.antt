@@ -1,6 +1,8 @@
--- The starred cases of 01, as one statement over one table: the definitions give each file the answer that 01 gives it.
+-- The starred cases of 01, as one statement over one table: the definitions give each file the answer that 01 gives it. Beside it
+-- the files whose totals are given (02, request g): both compute with the same definitions.
 use mathlib.Core.Path.{_≡_, refl}
 use mathlib.Core.List.{map}
+use Rattle.layout.specs.Lists
 use Rattle.layout.specs.Text
 use Rattle.layout.specs.Rows
 use Rattle.layout.specs.Sheets
@@ -13,12 +15,13 @@ use Rattle.rules.specs.Fields
 use Rattle.rules.specs.Position
 use Rattle.rules.specs.Rules
 use Rattle.rules.specs.Verdict
-use Rattle.rules.specs.Verdict.{finalOf}
-use Rattle.rules.specs.Cases.{cases, fileOf}
+use Rattle.rules.specs.Verdict.{finalOf, totalsOf}
+use Rattle.rules.specs.Cases.{cases, totalsOfFiles, fileOf}
 
-pub starred-cases : map (λ c. finalOf (c .file)) cases ≡ map (λ c. c .answer) cases
-unfolding cases fileOf
-    Text.bytes Text.codeNumber Text.textNumber
+computed : (map (λ c. finalOf (c .file)) cases ≡ map (λ c. c .answer) cases)
+    × (map (λ c. totalsOf (c .file)) totalsOfFiles ≡ map (λ c. c .totals) totalsOfFiles)
+unfolding cases totalsOfFiles fileOf
+    Lists.tabulate Text.bytes Text.codeNumber Text.textNumber
     Rows.rowTable Rows.listed Rows.code Rows.fields Rows.level Rows.occurrence Rows.limit Rows.blockLetters Rows.placeOf
     Rows.block Rows.isOpening Rows.isClosing Rows.lastAmong Rows.parent Rows.opening Rows.rowFrom Rows.rowOfCode
     Sheets.sheets Kinds.kindOf Kinds.sheetOf Kinds.fitted Kinds.kindsOf Kinds.kind
@@ -26,7 +29,7 @@ unfolding cases fileOf
     Bytes.bars Bytes.word Bytes.empty Bytes.isEndByte
     Order.last Order.shallower Order.openRows Order.among Order.isOpen Order.startsFile Order.startsBlock Order.endsBlock
     Order.endsFile Order.hangs Order.canStand Order.underParent Order.hasRoom Order.isData
-    Counts.linesOfRow Counts.linesOfBlock Counts.due
+    Counts.linesOfRow Counts.linesOfBlock Counts.totalsOfRows Counts.due
     CheckDigits.digitsOf CheckDigits.weighed CheckDigits.checkDigit CheckDigits.rightAfter CheckDigits.bothRight
     CheckDigits.isCnpj CheckDigits.isCpf
     Fields.isDigit Fields.allDigits Fields.value Fields.isDecimal Fields.upToDecimals Fields.beginsDecimal Fields.isLeapYear
@@ -37,4 +40,11 @@ unfolding cases fileOf
     Position.position Rules.isLastLine Rules.complete Rules.full
     Rules.rules Rules.firstBroken Rules.faultBy Rules.fault
     Verdict.judged Verdict.verdictAfter Verdict.verdict Verdict.finishAfter Verdict.finishVerdict Verdict.finalOf
-starred-cases = refl
+    Verdict.unrefused Verdict.standing Verdict.totals Verdict.totalsOf
+computed = (refl, refl)
+
+pub starred-cases : map (λ c. finalOf (c .file)) cases ≡ map (λ c. c .answer) cases
+starred-cases = computed .0
+
+pub totals-of-files : map (λ c. totalsOf (c .file)) totalsOfFiles ≡ map (λ c. c .totals) totalsOfFiles
+totals-of-files = computed .1

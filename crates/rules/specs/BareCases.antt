@@ -1,4 +1,4 @@
--- 01, "Both sides of each rule", and 02, requests h and e: starred cases and others, each for one rule, without the bytes around
+-- 01, "Both sides of each rule", and 02, requests h, e and g: starred cases and others, each for one rule, without the bytes around
 -- it. The starred cases are whole files (Cases); these are short enough that a check which refuses one prints the two numbers
 -- that differ.
 use mathlib.Core.List.{List, [], _∷_, map, reverse}
@@ -10,11 +10,12 @@ use Rattle.layout.specs.Rows.{rowOfCode}
 use Rattle.layout.specs.Kind.{Kind, C, decimals, date, cnpj, cpf, opens, count}
 use Rattle.rules.specs.Bytes.{bar, CR, LF}
 use Rattle.rules.specs.Order.{canStand, hasRoom}
-use Rattle.rules.specs.Counts.{due}
+use Rattle.rules.specs.Counts.{due, totalsOfRows}
 use Rattle.rules.specs.CheckDigits.{digitsOf, checkDigit, cnpjWeights, cpfWeights}
 use Rattle.rules.specs.Fields.{formOf}
 use Rattle.rules.specs.Position.{position}
 use Rattle.rules.specs.Rules.{Fault, clear, breaks, rules, firstBroken}
+use Rattle.rules.specs.Verdict.{totalsOf}
 
 -- the number that the documents say, and the one that the definitions give
 pub record Bare : Type 0 where
@@ -192,4 +193,23 @@ byteCases =
     -- 29022011: 12; 29022012: a date
     bare 12 (dated "29022011") ∷
     bare 0 (dated "29022012") ∷
+    []
+
+-- 02, request g: the totals of these lines, and of these bytes, a digit for each block: 0, C, E, F, G, H, 9
+abbrev asDigits : ℕ → List ℕ → ℕ
+asDigits n [] = n
+asDigits n (t ∷ totals) = asDigits (n * 10 + t) totals
+
+unfoldable pub totalsAfter : List String → ℕ
+totalsAfter codes = asDigits 0 (totalsOfRows (rowsNamed codes))
+
+unfoldable pub totalsIn : String → ℕ
+totalsIn text = asDigits 0 (totalsOf (bytes text))
+
+unfoldable pub totalsCases : List Bare
+totalsCases =
+    -- two lines of block 0 and one of block 9
+    bare 2000001 (totalsAfter ("0000" ∷ "0001" ∷ "9001" ∷ [])) ∷
+    -- a line that its first byte refuses, by 1, raises no total
+    bare 0 (totalsIn "x|0001|1|\r\n") ∷
     []

@@ -1,4 +1,5 @@
--- 01, "Both sides of each rule": the cases marked *, and 02's examples, each a file and the answer to finish.
+-- 01, "Both sides of each rule": the cases marked *, and 02's examples, each a file and the answer to finish. At the end, some of
+-- these files with the lines ended of each block.
 use mathlib.Core.List.{List, [], _∷_, _++_}
 use Prim.Native.Nat.{ℕ}
 use Prim.Native.String.{String}
@@ -67,4 +68,24 @@ cases =
     case (first ∷ "|0001|1|\r\n" ∷ "|0990|3x|\r\n" ∷ closing9) (refused 10 3 2 2 2 79) ∷
     -- Base plus byte 26: 15, line 7
     case (first ∷ "|0001|1|\r\n" ∷ closing0 ++ "\u{1a}" ∷ []) (refused 15 7 0 0 6 111) ∷
+    []
+
+-- 02, request g: a refused line raises no total, nor do the lines after it
+pub record Totalled : Type 0 where
+  pub file : List ℕ
+  pub totals : List ℕ
+
+abbrev totalled : List String → List ℕ → Totalled
+totalled file totals = record { file = fileOf file; totals = totals }
+
+-- blocks 0, C, E, F, G, H, 9
+unfoldable pub totalsOfFiles : List Totalled
+totalsOfFiles =
+    -- Base; no bytes
+    totalled (first ∷ "|0001|1|\r\n" ∷ closing0) (3 ∷ 0 ∷ 0 ∷ 0 ∷ 0 ∷ 0 ∷ 3 ∷ []) ∷
+    totalled [] (0 ∷ 0 ∷ 0 ∷ 0 ∷ 0 ∷ 0 ∷ 0 ∷ []) ∷
+    -- 0990 saying 2, refused by 13: its line is not ended
+    totalled (first ∷ "|0001|1|\r\n" ∷ "|0990|2|\r\n" ∷ closing9) (2 ∷ 0 ∷ 0 ∷ 0 ∷ 0 ∷ 0 ∷ 0 ∷ []) ∷
+    -- Base cut off before the LF of 9990
+    totalled (first ∷ "|0001|1|\r\n" ∷ "|0990|3|\r\n" ∷ "|9001|1|\r\n" ∷ "|9990|3|\r" ∷ []) (3 ∷ 0 ∷ 0 ∷ 0 ∷ 0 ∷ 0 ∷ 1 ∷ []) ∷
     []

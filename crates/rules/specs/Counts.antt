@@ -5,7 +5,7 @@ use lib.Dec.{eqb}
 use lib.ListN.{length}
 use Rattle.layout.specs.Pick.{pick}
 use Rattle.layout.specs.Lists.{tabulate}
-use Rattle.layout.specs.Rows.{rowCount, block, row9999}
+use Rattle.layout.specs.Rows.{rowCount, block, blocks, row9999}
 
 -- the lines of row r
 unfoldable pub linesOfRow : ℕ → List ℕ → ℕ
@@ -27,3 +27,7 @@ due r before =
 -- "a count of lines for each of the 98 rows", in row order
 unfoldable pub countsOfRows : List ℕ → List ℕ
 countsOfRows rows = tabulate rowCount (λ r. linesOfRow r rows)
+
+-- 02, request g, "lines per block": a total for each block, in the order of blocks
+unfoldable pub totalsOfRows : List ℕ → List ℕ
+totalsOfRows rows = tabulate blocks (λ x. linesOfBlock x rows)

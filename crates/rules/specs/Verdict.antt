@@ -1,11 +1,11 @@
--- 01, "What a refusal says": the verdict of all bytes so far, the answer of finish, and the 98 counts.
+-- 01, "What a refusal says": the verdict of all bytes so far, the answer of finish, and the 98 counts; 02, request g: the totals.
 use mathlib.Core.Bool.{Bool, true, false}
 use mathlib.Core.List.{List, [], _∷_, reverse}
 use Prim.Native.Nat.{ℕ, suc}
 use lib.ListN.{length}
 use Rattle.layout.specs.Pick.{pick}
 use Rattle.rules.specs.Bytes.{lines, rows}
-use Rattle.rules.specs.Counts.{countsOfRows}
+use Rattle.rules.specs.Counts.{countsOfRows, totalsOfRows}
 use Rattle.rules.specs.Rules.{Fault, clear, breaks, fault, complete}
 
 pub data Verdict : Type 0 where
@@ -58,6 +58,10 @@ standing (b ∷ seen) = let rest = standing seen in pick (unrefused (verdict (b 
 unfoldable pub counts : List ℕ → List ℕ
 counts seen = countsOfRows (rows (standing seen))
 
+-- 02, request g, "lines per block", of lines ended so far
+unfoldable pub totals : List ℕ → List ℕ
+totals seen = totalsOfRows (rows (standing seen))
+
 -- of a file as it is written, first byte first: the answer to each piece is the verdict of the bytes joined so far,
 -- and to finish the final one
 unfoldable pub verdictOf : List ℕ → Verdict
@@ -68,3 +72,6 @@ finalOf file = finishVerdict (reverse file)
 
 unfoldable pub countsOf : List ℕ → List ℕ
 countsOf file = counts (reverse file)
+
+unfoldable pub totalsOf : List ℕ → List ℕ
+totalsOf file = totals (reverse file)
