@@ -1,7 +1,10 @@
 //! Other ways to what the checker works out, for tests to hold its own to. Of a
 //! CNPJ or CPF no check digit is worked out: the number is summed up as it is
-//! written. The wrong byte of a field is found by counting its digits.
+//! written. The wrong byte of a field is found by counting its digits. The totals
+//! of the blocks are added up from the 98 counts.
 
+use crate::rows::{rows, BLOCKS};
+use crate::totals::Totals;
 use crate::CheckedNumber::{self, Cnpj, Cpf};
 
 pub fn is_right_in_another_way(checked: CheckedNumber, text: &[u8]) -> bool {
@@ -38,4 +41,13 @@ pub fn wrong_byte_in_another_way(text: &[u8], decimals: Option<usize>) -> usize 
         }
         _ => whole + 1,
     }
+}
+
+/// The counts of each block's rows, added up.
+pub fn totals_in_another_way(counts: &[u64; 98]) -> Totals {
+    let of_block = |block: u8| {
+        let rows = rows().iter().zip(counts).filter(move |(row, _)| row.block() == block);
+        rows.map(|(_, count)| count).sum()
+    };
+    BLOCKS.map(of_block)
 }

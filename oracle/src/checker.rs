@@ -1,7 +1,8 @@
 //! Pieces as they come in: each answer is the verdict of the joined bytes,
-//! until finish has been asked.
+//! until finish has been asked. Totals are those of these bytes at any time.
 
-use crate::verdict::{finish, judgement, verdict, Final, Verdict};
+use crate::totals::Totals;
+use crate::verdict::{judgement, Final, Judgement, Verdict};
 
 #[derive(Clone, Copy, Debug, PartialEq, Eq)]
 pub enum Answer {
@@ -48,10 +49,17 @@ impl From<Final> for Answer {
     }
 }
 
-#[derive(Default)]
 pub struct Checker {
     joined: Vec<u8>,
+    /// All there is to say of the joined bytes.
+    judged: Judgement,
     finished: bool,
+}
+
+impl Default for Checker {
+    fn default() -> Self {
+        Checker { joined: Vec::new(), judged: judgement(&[]), finished: false }
+    }
 }
 
 impl Checker {
@@ -60,7 +68,8 @@ impl Checker {
             return Answer::misuse(17);
         }
         self.joined.extend_from_slice(piece);
-        verdict(&self.joined).into()
+        self.judged = judgement(&self.joined);
+        self.judged.verdict.into()
     }
 
     pub fn finish(&mut self) -> Answer {
@@ -68,7 +77,7 @@ impl Checker {
             return Answer::misuse(17);
         }
         self.finished = true;
-        finish(&self.joined).into()
+        self.judged.at_finish.into()
     }
 
     /// Writes the 98 counts into the first places of the lent buffer and gives
@@ -77,8 +86,12 @@ impl Checker {
         if room.len() < 98 {
             return Err(Answer::misuse(18));
         }
-        let judged = judgement(&self.joined);
-        room[..98].copy_from_slice(&judged.counts);
-        Ok(Answer::from(judged.verdict).lines_and_bytes())
+        room[..98].copy_from_slice(&self.judged.counts);
+        Ok(Answer::from(self.judged.verdict).lines_and_bytes())
+    }
+
+    /// Lines ended so far of each block, whatever was asked or refused since.
+    pub fn totals(&self) -> Totals {
+        self.judged.totals
     }
 }

@@ -21,13 +21,16 @@ mod checker;
 mod shape;
 mod sheets;
 mod spot;
+mod totals;
 mod verdict;
 mod wrong_byte;
 
 pub use check_digits::CheckedNumber;
 pub use checker::{Answer, Checker};
+pub use totals::Totals;
 pub use verdict::{
-    counts, finish, judgement, verdict, verdict_within, Final, Judgement, Verdict, BYTE_LIMIT,
+    counts, finish, judgement, totals, verdict, verdict_within, Final, Judgement, Verdict,
+    BYTE_LIMIT,
 };
 
 pub const BAR: u8 = 124;

@@ -74,6 +74,11 @@ impl<'a> Lines<'a> {
         self.ended.iter().filter(|line| line.row().block() == block).count()
     }
 
+    /// The first letters of the codes, as the lines themselves have them.
+    pub fn letters(&self) -> impl Iterator<Item = u8> + '_ {
+        self.ended.iter().filter_map(|line| line.field(1).first().copied())
+    }
+
     pub fn file_is_whole(&self) -> bool {
         self.last().is_some_and(|line| line.row().code == "9999")
     }

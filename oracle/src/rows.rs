@@ -4,7 +4,7 @@
 use std::sync::OnceLock;
 
 /// The order of the blocks, one code letter each.
-pub const BLOCKS: &[u8] = b"0CEFGH9";
+pub const BLOCKS: [u8; 7] = *b"0CEFGH9";
 
 const WRITTEN: [&str; 7] = [
     "0000 20/0/1; 0001; 0005 14/2/1; 0025 3/2/N; 0030 18/2/1; 0100 18/2/1; 0150 13/2/N; \

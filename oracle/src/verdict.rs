@@ -3,6 +3,7 @@
 use crate::lines::Lines;
 use crate::rules::{broken_rule, Broken};
 use crate::spot::LineAtHand;
+use crate::totals::{block_totals, Totals};
 use crate::LF;
 
 /// The byte with this number is one too many (rule 16).
@@ -38,12 +39,18 @@ pub fn counts(bytes: &[u8]) -> [u64; 98] {
     judgement(bytes).counts
 }
 
+/// Lines ended so far of each block.
+pub fn totals(bytes: &[u8]) -> Totals {
+    judgement(bytes).totals
+}
+
 /// All there is to say of these bytes, from one reading of them.
 #[derive(Clone, Debug)]
 pub struct Judgement {
     pub verdict: Verdict,
     pub at_finish: Final,
     pub counts: [u64; 98],
+    pub totals: Totals,
 }
 
 pub fn judgement(bytes: &[u8]) -> Judgement {
@@ -60,7 +67,8 @@ pub fn judgement(bytes: &[u8]) -> Judgement {
             Final::Refused { number: 14, line: lines + 1, field: 0, position: 0, lines, bytes }
         }
     };
-    Judgement { verdict, at_finish, counts: judged.lines.per_row() }
+    let (counts, totals) = (judged.lines.per_row(), block_totals(&judged.lines));
+    Judgement { verdict, at_finish, counts, totals }
 }
 
 struct Judged<'a> {
@@ -118,4 +126,20 @@ fn first_broken(line: &LineAtHand, before: &Lines) -> Option<(usize, Broken)> {
         let broken = broken_rule(&line.spot(offset, before))?;
         Some((offset, broken))
     })
+}
+
+#[cfg(test)]
+mod tests {
+    use super::*;
+
+    /// The LF of a line may be the byte too many; the line has not ended then.
+    #[test]
+    fn totals_at_the_byte_too_many() {
+        let line = format!("|0000|LFPD{}Brasil|||||\r\n", "|".repeat(14)).into_bytes();
+        let totals = |limit: usize| block_totals(&judge(&line, limit as u64).lines);
+        assert_eq!(totals(line.len() + 1), [1, 0, 0, 0, 0, 0, 0]);
+        assert_eq!(totals(line.len()), [0; 7]);
+        let refused = verdict_within(&line, line.len() as u64);
+        assert!(matches!(refused, Verdict::Refused { number: 16, lines: 0, .. }));
+    }
 }

@@ -21,7 +21,7 @@ pub fn good_file_with(random: &mut Random, room: usize, wanted: usize) -> Draft 
     let fullness = fullness(random, room);
     let mut tree = Tree { draft: Draft::default(), fullness, room, used: 0 };
     tree.add(random, 0);
-    for &block in BLOCKS {
+    for block in BLOCKS {
         if block == rows()[wanted].block() {
             tree.block(random, block, &path);
         } else if block == b'0' || block == b'9' || (room > TIGHT && random.percent(25)) {
