@@ -30,6 +30,23 @@ fn faults() -> Vec<String> {
     text(&output).lines().map(String::from).collect()
 }
 
+/// Whether a kept case has an answer that differs, its totals left aside.
+fn differs_beside_totals(keep: &Path) -> bool {
+    let paths = fs::read_dir(keep).expect("cases are kept").map(|entry| entry.unwrap().path());
+    let mut expected = paths.filter(|path| path.extension().is_some_and(|end| end == "expected"));
+    expected.any(|path| {
+        let text = |end: &str| fs::read_to_string(path.with_extension(end)).unwrap();
+        let (expected, got) = (text("expected"), text("got"));
+        !expected.lines().map(beside_totals).eq(got.lines().map(beside_totals))
+    })
+}
+
+/// What stands in an answer before the totals, and after them where it should not.
+fn beside_totals(line: &str) -> (&str, &str) {
+    let (before, totals) = line.split_once(" totals").unwrap_or((line, ""));
+    (before, totals.trim_start_matches(|letter: char| letter == ' ' || letter.is_ascii_digit()))
+}
+
 fn assert_caught(fault: &str, more: &[&str]) {
     let keep = kept(fault);
     let output = compare(&format!("{STAND_IN} {fault}"), &keep, more);
@@ -40,6 +57,8 @@ fn assert_caught(fault: &str, more: &[&str]) {
     if !["one-line-more", "bad-status"].contains(&fault) {
         assert!(text.contains("DIFFERENCE in case"), "{fault}: {text}");
         assert!(fs::read_dir(&keep).expect("cases are kept").count() >= 3, "{fault}");
+        // the totals must not be what gives the others away
+        assert_eq!(differs_beside_totals(&keep), !fault.contains("total"), "{fault}");
     }
 }
 
@@ -54,6 +73,15 @@ fn the_oracle_equals_itself() {
     assert!(text.contains("  N with 2 decimals ") && text.contains("  C at most 65536 "), "{text}");
     assert!(text.contains("  cnpj ") && text.contains("  cpf "), "{text}");
     assert!(!keep.exists());
+}
+
+/// What is caught is then the fault, not the checker it is planted in.
+#[test]
+fn the_checker_without_a_fault_is_equal() {
+    let keep = kept("no-fault");
+    let output = compare(&format!("{STAND_IN} no-fault"), &keep, &["--cases", "3000"]);
+    assert!(output.status.success(), "{}", text(&output));
+    assert!(!faults().contains(&"no-fault".to_string()) && !keep.exists());
 }
 
 /// The number of cases from which it is asked comes from the plan.
@@ -197,4 +225,9 @@ fn stored_batches() {
         assert!(text.contains(&format!("\nrefused {number} ")), "{number}");
     }
     assert!(text.contains("\naccepted "));
+    for line in text.lines() {
+        let (_, totals) = line.split_once(" totals ").expect("every answer has them");
+        let are_numbers = totals.split(' ').all(|total| total.parse::<u64>().is_ok());
+        assert!(are_numbers && totals.split(' ').count() == 7, "{line}");
+    }
 }

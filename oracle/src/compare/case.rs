@@ -146,6 +146,43 @@ mod tests {
         }
     }
 
+    /// The seven totals at the end of an answer, and the answer before them.
+    fn totals_of(text: &str) -> (&str, Vec<u64>) {
+        let (answer, totals) = text.split_once(" totals ").expect("every answer has them");
+        (answer, totals.split(' ').map(|total| total.parse().expect("a number")).collect())
+    }
+
+    /// What comes after a refusal, a finish and a report, be it refused or not,
+    /// leaves the totals as they were.
+    #[test]
+    fn what_leaves_the_totals() {
+        let (mut repeated, mut finished, mut late, mut reported, mut short) = (0, 0, 0, 0, 0);
+        for case in cases() {
+            for pair in answered(&case).windows(2) {
+                let [(before, said), (command, says)] = pair else { unreachable!() };
+                if !before.is_answered() || !command.is_answered() {
+                    continue;
+                }
+                let ((answer, totals), (_, then)) = (totals_of(says), totals_of(said));
+                let is_piece = matches!(command, Command::Piece(_));
+                let was_refused = said.starts_with("refused") && !said.starts_with("refused 18");
+                let counter = match command {
+                    _ if answer.starts_with("refused 17") => &mut late,
+                    _ if is_piece && was_refused => &mut repeated,
+                    Command::Finish => &mut finished,
+                    Command::Counts => &mut reported,
+                    Command::ShortCounts => &mut short,
+                    _ => continue,
+                };
+                assert_eq!(totals, then, "{answer} after {said}");
+                *counter += usize::from(totals.iter().sum::<u64>() > 0);
+            }
+        }
+        for number in [repeated, finished, late, reported, short] {
+            assert!(number > 100, "{repeated} {finished} {late} {reported} {short}");
+        }
+    }
+
     #[test]
     fn ways_of_cutting() {
         let ways = [

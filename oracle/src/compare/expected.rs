@@ -3,7 +3,7 @@
 //! its rounds feed the same bytes again and again.
 
 use super::command::Command;
-use super::text::{answer_text, counts_text};
+use super::text::{answer_text, counts_text, with_totals};
 use crate::{judgement, Answer, Judgement};
 use std::collections::HashMap;
 
@@ -35,30 +35,31 @@ struct Expected {
 
 impl Expected {
     fn answer(&mut self, command: &Command) -> Option<String> {
-        match command {
+        let text = match command {
             Command::New => {
                 self.joined.clear();
                 self.finished = false;
-                None
+                return None;
             }
             Command::Piece(_) | Command::Finish if self.finished => {
-                Some(answer_text(Answer::misuse(17)))
+                answer_text(Answer::misuse(17))
             }
             Command::Piece(piece) => {
                 self.joined.extend_from_slice(piece);
-                Some(answer_text(self.judgement().verdict.into()))
+                answer_text(self.judgement().verdict.into())
             }
             Command::Finish => {
                 self.finished = true;
-                Some(answer_text(self.judgement().at_finish.into()))
+                answer_text(self.judgement().at_finish.into())
             }
             Command::Counts => {
                 let judged = self.judgement();
                 let (lines, bytes) = Answer::from(judged.verdict).lines_and_bytes();
-                Some(counts_text(lines, bytes, &judged.counts))
+                counts_text(lines, bytes, &judged.counts)
             }
-            Command::ShortCounts => Some(answer_text(Answer::misuse(18))),
-        }
+            Command::ShortCounts => answer_text(Answer::misuse(18)),
+        };
+        Some(with_totals(text, &self.judgement().totals))
     }
 
     fn judgement(&mut self) -> &Judgement {
@@ -72,9 +73,30 @@ impl Expected {
 #[cfg(test)]
 mod tests {
     use super::*;
+    use crate::compare::base::BASE;
 
     fn piece(text: &str) -> Command {
         Command::Piece(text.as_bytes().to_vec())
+    }
+
+    fn lines(lines: &[&str]) -> String {
+        lines.iter().map(|line| format!("{line}\r\n")).collect()
+    }
+
+    /// An answer with its totals; nothing where there is none.
+    fn line(text: &str, totals: &str) -> String {
+        match text {
+            "" => String::new(),
+            _ => format!("{text} totals {totals}"),
+        }
+    }
+
+    /// The answers to these commands are those beside them; `New` has none.
+    #[track_caller]
+    fn assert_answers(wanted: Vec<(Command, String)>) {
+        let (commands, texts): (Vec<Command>, Vec<String>) = wanted.into_iter().unzip();
+        let texts: Vec<String> = texts.into_iter().filter(|text| !text.is_empty()).collect();
+        assert_eq!(expected_texts(&commands), texts);
     }
 
     #[test]
@@ -104,10 +126,49 @@ mod tests {
             (piece("|"), "refused 2 1 1 4 0 5"),
             (Command::Finish, "refused 2 1 1 4 0 5"),
         ];
-        let (commands, texts): (Vec<Command>, Vec<&str>) = commands.into_iter().unzip();
-        let wanted: Vec<&str> = texts.into_iter().filter(|text| !text.is_empty()).collect();
-        let got = expected_texts(&commands);
-        assert_eq!(got, wanted);
-        assert_eq!(first_final(&commands, &got), 14);
+        let wanted = commands.map(|(command, text)| (command, line(text, "0 0 0 0 0 0 0")));
+        assert_answers(wanted.to_vec());
+    }
+
+    /// The totals change with a line's LF and with `New`, and with nothing else.
+    #[test]
+    fn totals_of_a_checker() {
+        let ones = |rows: &[usize]| -> String {
+            (0..98).map(|row| if rows.contains(&row) { " 1" } else { " 0" }).collect()
+        };
+        let all = format!("counts 6 110{}", ones(&[0, 1, 18, 95, 96, 97]));
+        let two = format!("counts 2 71{}", ones(&[0, 1]));
+        let rest = lines(&BASE[2..]);
+        let commands = [
+            (Command::New, "", ""),
+            (piece(BASE[0]), "open 0 58", "0 0 0 0 0 0 0"),
+            (piece("\r"), "open 0 59", "0 0 0 0 0 0 0"),
+            (piece("\n"), "open 1 60", "1 0 0 0 0 0 0"),
+            (piece(&lines(&BASE[1..2])), "open 2 70", "2 0 0 0 0 0 0"),
+            (piece(&rest), "open 6 110", "3 0 0 0 0 0 3"),
+            (Command::ShortCounts, "refused 18 0 0 0 0 0", "3 0 0 0 0 0 3"),
+            (Command::Finish, "accepted 6 110", "3 0 0 0 0 0 3"),
+            (piece(&rest), "refused 17 0 0 0 0 0", "3 0 0 0 0 0 3"),
+            (Command::Finish, "refused 17 0 0 0 0 0", "3 0 0 0 0 0 3"),
+            (Command::Counts, &all, "3 0 0 0 0 0 3"),
+            (Command::New, "", ""),
+            (Command::ShortCounts, "refused 18 0 0 0 0 0", "0 0 0 0 0 0 0"),
+            (piece(&lines(&BASE[..2])), "open 2 70", "2 0 0 0 0 0 0"),
+            (piece("0990|3|\r\n"), "refused 1 3 0 0 2 71", "2 0 0 0 0 0 0"),
+            (piece(&rest), "refused 1 3 0 0 2 71", "2 0 0 0 0 0 0"),
+            (Command::Counts, &two, "2 0 0 0 0 0 0"),
+            (Command::Finish, "refused 1 3 0 0 2 71", "2 0 0 0 0 0 0"),
+            (piece(""), "refused 17 0 0 0 0 0", "2 0 0 0 0 0 0"),
+        ];
+        let wanted = commands.map(|(command, text, totals)| (command, line(text, totals)));
+        assert_answers(wanted.to_vec());
+    }
+
+    #[test]
+    fn the_number_of_the_first_finish() {
+        for (text, number) in [("|00", 14), ("x|", 1), (&lines(&BASE), 0)] {
+            let commands = [piece(text), Command::Counts, Command::Finish, Command::Finish];
+            assert_eq!(first_final(&commands, &expected_texts(&commands)), number);
+        }
     }
 }

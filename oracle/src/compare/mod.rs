@@ -36,4 +36,4 @@ pub use expected::{expected_texts, first_final};
 pub use options::Options;
 pub use outcome::Outcome;
 pub use run::run;
-pub use text::{answer_text, counts_text};
+pub use text::{answer_text, counts_text, with_totals};

@@ -136,9 +136,10 @@ mod tests {
 
     #[test]
     fn texts_read() {
-        let mut from = &b"open 0 0\nopen 1 1\r\nopen"[..];
-        assert_eq!(read_texts(&mut from, 1).unwrap(), ["open 0 0"]);
-        assert_eq!(read_texts(&mut from, 5).unwrap(), ["open 1 1\\r", "open (line not ended)"]);
+        let mut from = &b"open 0 0 totals 0\nopen 1 1 totals 1\r\nopen"[..];
+        assert_eq!(read_texts(&mut from, 1).unwrap(), ["open 0 0 totals 0"]);
+        let rest = ["open 1 1 totals 1\\r", "open (line not ended)"];
+        assert_eq!(read_texts(&mut from, 5).unwrap(), rest);
         assert!(read_texts(&mut from, 1).unwrap().is_empty());
     }
 }

@@ -31,8 +31,9 @@ pub struct Fault {
     pub takes_after_finish: bool,
 }
 
-const NONE: Fault = Fault {
-    name: "",
+/// What all the others are made of.
+pub const NONE: Fault = Fault {
+    name: "no-fault",
     join: |joined, piece| joined.extend_from_slice(piece),
     sees: <[u8]>::to_vec,
     says: |_, answer| answer,

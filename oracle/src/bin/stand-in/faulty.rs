@@ -1,10 +1,11 @@
 //! A checker with one fault in it.
 
 use crate::fault::Fault;
+use crate::shown::Shown;
 use crate::told::with_position;
 use crate::Answers;
-use oracle::compare::{answer_text, counts_text, Command};
-use oracle::{finish, verdict, Answer};
+use oracle::compare::{answer_text, counts_text, with_totals, Command};
+use oracle::{judgement, Answer, Judgement, Totals};
 
 pub struct Faulty {
     fault: &'static Fault,
@@ -14,46 +15,52 @@ pub struct Faulty {
     pieces: Vec<usize>,
     /// What the fault makes of them when pieces come in.
     joined: Vec<u8>,
+    /// The oracle's judgement of what it takes these for.
+    judged: Judgement,
     finished: bool,
 }
 
 impl Answers for Faulty {
     fn answer(&mut self, command: &Command) -> Option<String> {
-        match command {
+        let text = match command {
             Command::New => {
                 self.start_anew();
-                None
+                return None;
             }
-            Command::Piece(piece) => Some(answer_text(self.piece(piece))),
-            Command::Finish => Some(answer_text(self.finish())),
-            Command::Counts => Some(self.report()),
+            Command::Piece(piece) => answer_text(self.piece(piece)),
+            Command::Finish => answer_text(self.finish()),
+            Command::Counts => self.report(),
             Command::ShortCounts => {
                 if self.fault.short_report_clears {
                     self.start_anew();
                 }
-                Some(answer_text((self.fault.no_room)(self.so_far())))
+                answer_text((self.fault.no_room)(self.so_far()))
             }
-        }
+        };
+        Some(with_totals(text, &self.totals()))
     }
 }
 
 impl Faulty {
     pub fn new(fault: &'static Fault) -> Self {
         let (all, pieces, joined) = (Vec::new(), Vec::new(), Vec::new());
-        Faulty { fault, all, pieces, joined, finished: false }
+        Faulty { fault, all, pieces, joined, judged: judgement(&[]), finished: false }
     }
 
     fn start_anew(&mut self) {
-        self.all.clear();
-        self.pieces.clear();
-        self.joined.clear();
-        self.finished &= self.fault.stays_finished;
+        let finished = self.finished && self.fault.stays_finished;
+        *self = Faulty { finished, ..Self::new(self.fault) };
     }
 
     fn take(&mut self, piece: &[u8]) {
         self.pieces.push(self.all.len());
         self.all.extend_from_slice(piece);
         (self.fault.join)(&mut self.joined, piece);
+        self.judged = judgement(&self.seen());
+    }
+
+    fn seen(&self) -> Vec<u8> {
+        (self.fault.sees)(&self.joined)
     }
 
     fn piece(&mut self, piece: &[u8]) -> Answer {
@@ -69,8 +76,7 @@ impl Faulty {
 
     /// What it says of the bytes received, finish left aside.
     fn so_far(&self) -> Answer {
-        let answer = verdict(&(self.fault.sees)(&self.joined)).into();
-        self.told(answer, false)
+        self.told(self.judged.verdict.into(), false)
     }
 
     /// What it makes of an answer.
@@ -83,14 +89,18 @@ impl Faulty {
         if self.finished {
             return Answer::misuse(17);
         }
-        let answer = finish(&(self.fault.sees)(&self.joined)).into();
+        let answer = self.judged.at_finish.into();
         self.finished = (self.fault.ends_with)(&answer);
         self.told(answer, true)
     }
 
     fn report(&self) -> String {
-        let counts = (self.fault.counts)(&(self.fault.sees)(&self.joined), self.finished);
+        let counts = (self.fault.counts)(&self.seen(), self.finished);
         let (lines, bytes) = (self.fault.numbers)(&self.all, self.so_far(), self.finished);
         counts_text(lines, bytes, &counts)
+    }
+
+    fn totals(&self) -> Totals {
+        Shown { all: &self.all, said: self.so_far() }.totals()
     }
 }

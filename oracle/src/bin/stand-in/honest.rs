@@ -1,7 +1,7 @@
 //! No fault: every command goes to the oracle's checker.
 
 use crate::Answers;
-use oracle::compare::{answer_text, counts_text, Command};
+use oracle::compare::{answer_text, counts_text, with_totals, Command};
 use oracle::Checker;
 
 #[derive(Default)]
@@ -11,16 +11,17 @@ pub struct Honest {
 
 impl Answers for Honest {
     fn answer(&mut self, command: &Command) -> Option<String> {
-        match command {
+        let text = match command {
             Command::New => {
                 self.checker = Checker::default();
-                None
+                return None;
             }
-            Command::Piece(piece) => Some(answer_text(self.checker.piece(piece))),
-            Command::Finish => Some(answer_text(self.checker.finish())),
-            Command::Counts => Some(self.report(98)),
-            Command::ShortCounts => Some(self.report(97)),
-        }
+            Command::Piece(piece) => answer_text(self.checker.piece(piece)),
+            Command::Finish => answer_text(self.checker.finish()),
+            Command::Counts => self.report(98),
+            Command::ShortCounts => self.report(97),
+        };
+        Some(with_totals(text, &self.checker.totals()))
     }
 }
 

@@ -1,6 +1,7 @@
 //! stand-in [FAULT]: stands in for the program under test, to test the
 //! comparison itself. It answers with the oracle's own checker, or with a
-//! fault planted. `stand-in --faults` lists the faults.
+//! fault planted. `stand-in --faults` lists the faults; `stand-in no-fault`
+//! is the checker they are planted in.
 
 mod check_digits;
 mod counts;
@@ -14,9 +15,10 @@ mod positions;
 mod refuses_fields;
 mod says;
 mod sees;
+mod shown;
 mod told;
 
-use fault::FAULTS;
+use fault::{FAULTS, NONE};
 use faulty::Faulty;
 use honest::Honest;
 use oracle::compare::Command;
@@ -38,7 +40,7 @@ fn main() -> io::Result<ExitCode> {
         names.for_each(|name| println!("{name}"));
         return Ok(ExitCode::SUCCESS);
     }
-    match FAULTS.iter().find(|fault| fault.name == name) {
+    match FAULTS.iter().chain([&NONE]).find(|fault| fault.name == name) {
         Some(fault) => serve(&mut Faulty::new(fault), &name),
         None if name.is_empty() || OF_PROCESS.contains(&name.as_str()) => {
             serve(&mut Honest::default(), &name)
@@ -70,7 +72,7 @@ fn serve(answers: &mut dyn Answers, name: &str) -> io::Result<ExitCode> {
         }
     }
     if name == "one-line-more" {
-        writeln!(to, "open 0 0")?;
+        writeln!(to, "open 0 0 totals 0 0 0 0 0 0 0")?;
     }
     to.flush()?;
     Ok(ExitCode::from(if name == "bad-status" { 3 } else { 0 }))
