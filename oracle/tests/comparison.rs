@@ -7,6 +7,10 @@ use std::process::{Command, Output};
 
 const STAND_IN: &str = env!("CARGO_BIN_EXE_stand-in");
 
+/// Enough cases for all files that come first: the known ones, those of each
+/// kind and those with some 990 C300.
+const SHORT_RUN: &str = "550";
+
 /// Faults that only the longest files show, so that a short run passes.
 const SEEN_IN_LONG_RUNS: [&str; 1] = ["counts-in-16-bits"];
 
@@ -87,7 +91,7 @@ fn the_checker_without_a_fault_is_equal() {
 /// The number of cases from which it is asked comes from the plan.
 #[test]
 fn short_runs_say_what_they_did_not_show() {
-    let output = compare(STAND_IN, &kept("short"), &["--cases", "150"]);
+    let output = compare(STAND_IN, &kept("short"), &["--cases", "180"]);
     let said = text(&output);
     assert!(output.status.success() && said.contains("not shown: N of 5 digits never"), "{said}");
     let (_, rest) = said.split_once("a short run: from ").expect("it says so");
@@ -102,7 +106,7 @@ fn every_fault_is_caught() {
     let faults = faults();
     assert_eq!(faults.len(), 111);
     for fault in faults.iter().filter(|fault| !SEEN_IN_LONG_RUNS.contains(&fault.as_str())) {
-        assert_caught(fault, &["--cases", "500"]);
+        assert_caught(fault, &["--cases", SHORT_RUN]);
     }
 }
 
@@ -119,7 +123,7 @@ fn faults_are_caught_with_other_seeds() {
         ("2-at-a-wrong-character", "9"),
         ("too-many-decimals-at-the-end", "10"),
     ] {
-        assert_caught(fault, &["--cases", "500", "--seed", seed]);
+        assert_caught(fault, &["--cases", SHORT_RUN, "--seed", seed]);
     }
 }
 

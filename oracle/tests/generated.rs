@@ -1,8 +1,8 @@
 //! What the generator must bring, and what holds of every verdict.
 
 use oracle::generate::{case, small_case};
-use oracle::rows::rows;
-use oracle::{counts, finish, verdict, Final, Verdict};
+use oracle::rows::{rows, BLOCKS};
+use oracle::{counts, finish, totals, verdict, Final, Totals, Verdict, LF};
 use std::collections::{BTreeMap, BTreeSet};
 
 fn refusal_number(answer: Final) -> u8 {
@@ -39,6 +39,44 @@ fn all_98_rows_in_accepted_small_cases() {
     let absent: Vec<&str> =
         (0..98).filter(|&row| seen[row] == 0).map(|row| rows()[row].code.as_str()).collect();
     assert!(absent.is_empty(), "never accepted: {absent:?}");
+}
+
+/// The block whose letter the last line of these bytes has, if it has one.
+fn block_at_hand(bytes: &[u8]) -> Option<usize> {
+    let letter = *bytes.split(|&byte| byte == LF).next_back()?.get(1)?;
+    BLOCKS.iter().position(|&block| block == letter)
+}
+
+/// Accepted files with all mixtures of blocks, and lines of every block that
+/// are refused or cut off.
+#[test]
+fn mixtures_of_blocks_in_small_cases() {
+    let mut accepted: BTreeMap<[bool; 7], usize> = BTreeMap::new();
+    let mut different: BTreeSet<Totals> = BTreeSet::new();
+    let (mut refused, mut cut_off) = ([0; 7], [0; 7]);
+    for seed in 0..20_000 {
+        let bytes = small_case(seed).bytes;
+        let totals = totals(&bytes);
+        different.insert(totals);
+        match finish(&bytes) {
+            Final::Accepted { .. } => {
+                *accepted.entry(totals.map(|total| total > 0)).or_default() += 1;
+            }
+            Final::Refused { number: 14, .. } => {
+                block_at_hand(&bytes).into_iter().for_each(|block| cut_off[block] += 1);
+            }
+            Final::Refused { bytes: judged, .. } => {
+                let block = block_at_hand(&bytes[..judged as usize]);
+                block.into_iter().for_each(|block| refused[block] += 1);
+            }
+        }
+    }
+    assert_eq!(accepted.len(), 32);
+    assert!(accepted.values().all(|&files| files >= 10), "{accepted:?}");
+    assert!(accepted[&[true; 7]] > 200, "{accepted:?}");
+    assert!(different.len() > 500, "{}", different.len());
+    assert!(refused.iter().all(|&files| files > 300), "{refused:?}");
+    assert!(cut_off.iter().all(|&files| files > 5), "{cut_off:?}");
 }
 
 /// Families that are good by construction are accepted, so the generator and

@@ -22,6 +22,8 @@ pub enum Feed {
     Plainly,
     /// Cut at every byte of the field in which it is decided.
     ThroughField,
+    /// Whole, then cut at all that a line could be counted at.
+    ThroughLines,
 }
 
 /// A file fed in a case, and what it is about.

@@ -3,7 +3,7 @@
 use super::base::{Feed, File};
 use super::chance::{chance_file, small_file};
 use super::command::Command;
-use super::cuts::{cut_file, cut_simply, cut_through_field};
+use super::cuts::{cut_file, cut_simply, cut_through_field, cut_through_lines};
 use super::feed::commands;
 use super::sweep::{swept_files, Swept};
 use crate::generate::Random;
@@ -52,7 +52,7 @@ impl Plan {
             None => chance_file(&mut random),
         };
         let simple = match file.feed {
-            Feed::AtLength | Feed::ThroughField => false,
+            Feed::AtLength | Feed::ThroughField | Feed::ThroughLines => false,
             Feed::MostlyShort => random.percent(90),
             Feed::Plainly => true,
         };
@@ -94,6 +94,7 @@ fn mixed(seed: u64) -> Random {
 fn made_case(number: usize, seed: u64, file: File, mut random: Random, simple: bool) -> Case {
     let (way, rounds) = match (file.feed, simple) {
         (Feed::ThroughField, _) => cut_through_field(&file.bytes),
+        (Feed::ThroughLines, _) => cut_through_lines(&file.bytes),
         (_, true) => cut_simply(&mut random, &file.bytes),
         (_, false) => cut_file(&mut random, &file.bytes),
     };
@@ -194,6 +195,7 @@ mod tests {
             "whole",
             "two pieces",
             "cut through the field",
+            "cut through the lines",
         ];
         let texts: Vec<String> = cases().map(|case| case.about).collect();
         for way in ways {

@@ -3,12 +3,16 @@
 
 use super::command::LONGEST_PIECE;
 use crate::generate::{pieces, Random};
-use crate::{verdict, Verdict, BAR, CR};
+use crate::{verdict, Verdict, BAR, CR, LF};
+use std::collections::BTreeSet;
 
 pub type Pieces = Vec<Vec<u8>>;
 
 /// Files up to this length are cut at every byte.
 const SHORT: usize = 150;
+
+/// Files up to this length are cut in each of their lines.
+const OF_FEW_LINES: usize = 600;
 
 /// About how many bytes the oracle may judge for one case, pieces joined anew
 /// for each answer.
@@ -23,6 +27,7 @@ pub fn cut_file(random: &mut Random, bytes: &[u8]) -> (&'static str, Vec<Pieces>
         (_, 0..=54) => ("random cuts", vec![random_cuts(random, bytes)]),
         (_, 55..=69) => ("two pieces at some cuts", some_cuts(random, bytes)),
         (false, 70..=84) => ("cut finely where it is decided", vec![fine_cuts(random, bytes)]),
+        (false, 85..=91) if bytes.len() <= OF_FEW_LINES => cut_through_lines(bytes),
         _ => ("whole", vec![whole(random, bytes)]),
     }
 }
@@ -64,6 +69,24 @@ fn places_in_field(bytes: &[u8]) -> Vec<usize> {
     };
     let is_near = |place: &usize| matter.iter().any(|other| place.abs_diff(*other) <= near);
     (bar..=end).filter(is_near).collect()
+}
+
+/// Whole in one round, so that many lines come with one piece; in another cut
+/// after each line's code, before and after its CR and after its LF, where a
+/// total could rise too early or too late.
+pub fn cut_through_lines(bytes: &[u8]) -> (&'static str, Vec<Pieces>) {
+    ("cut through the lines", vec![cut_at(bytes, &[]), cut_at(bytes, &places_in_lines(bytes))])
+}
+
+fn places_in_lines(bytes: &[u8]) -> Vec<usize> {
+    let mut places = BTreeSet::new();
+    let mut start = 0;
+    for line in bytes.split_inclusive(|&byte| byte == LF) {
+        let (code, end) = (start + 6, start + line.len());
+        places.extend([code.min(end), end.saturating_sub(2).max(start), end - 1, end]);
+        start = end;
+    }
+    places.into_iter().collect()
 }
 
 /// In one piece if it is short enough; no bytes are no piece or an empty one.
@@ -161,6 +184,7 @@ mod tests {
                 cut_file(&mut random, &bytes),
                 cut_simply(&mut random, &bytes),
                 cut_through_field(&bytes),
+                cut_through_lines(&bytes),
             ] {
                 assert!(!rounds.is_empty());
                 for pieces in rounds {
@@ -186,6 +210,13 @@ mod tests {
             assert!(long.contains(&place), "{place}");
         }
         assert!(long.len() < 40);
+    }
+
+    #[test]
+    fn every_line_of_a_file() {
+        assert_eq!(places_in_lines(b"|0001|1|\r\n|0990|"), [6, 8, 9, 10, 14, 15, 16]);
+        assert_eq!(places_in_lines(b"x\r\n\n|"), [1, 2, 3, 4, 5]);
+        assert!(places_in_lines(b"").is_empty());
     }
 
     #[test]

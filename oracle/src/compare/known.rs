@@ -1,19 +1,23 @@
-//! The document's own list of cases, those of requests h and e, and cases of
+//! The document's own list of cases, those of requests h, e and g, and cases of
 //! the rules they leave out.
 
 use super::base::{
     base, base_field, base_until, base_with, block_start, block_start_with, file, written, File, BASE,
 };
 use super::known_positions::known_positions;
+use super::known_totals::known_totals;
 
+/// A stored run has about the first hundred of the short ones, so that the
+/// long lists of alike values come last.
 pub fn known_files() -> Vec<File> {
     [
         whole_files(),
+        known_totals(),
         second_lines(),
         field_values(),
-        amounts_and_dates(),
         rows_in_place(),
         other_rules(),
+        amounts_and_dates(),
         numbers_with_check_digits(),
         other_fields_with_check_digits(),
         known_positions(),

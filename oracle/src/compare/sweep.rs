@@ -4,6 +4,7 @@
 use super::base::File;
 use super::known::known_files;
 use super::long_files::{c300_files, long_files};
+use super::sweep_blocks::block_files;
 use super::sweep_bytes::byte_files;
 use super::sweep_check_digits::check_digit_files;
 use super::sweep_counts::count_files;
@@ -40,6 +41,7 @@ fn other_files(random: &mut Random) -> Vec<File> {
         long_files(),
         byte_files(),
         position_files(random),
+        block_files(random),
         pair_files(),
     ]
     .concat();

@@ -25,7 +25,12 @@ pub fn block_file(random: &mut Random, codes: &[&str]) -> Draft {
     }
     all.extend(codes);
     all.extend([closing.as_str(), "9001", "9990", "9999"]);
-    let mut draft = Draft { lines: bare_lines(random, &all) };
+    bare_file(random, &all)
+}
+
+/// A file of lines of these codes and no others, marks and counts as they must be.
+pub fn bare_file(random: &mut Random, codes: &[&str]) -> Draft {
+    let mut draft = Draft { lines: bare_lines(random, codes) };
     draft.mend_openings();
     draft.mend_counts();
     draft

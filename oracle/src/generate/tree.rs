@@ -19,12 +19,14 @@ pub const TIGHT: usize = 100;
 pub fn good_file_with(random: &mut Random, room: usize, wanted: usize) -> Draft {
     let path = path_to(wanted);
     let fullness = fullness(random, room);
+    // most files have few of the other blocks, some nearly all
+    let others = *random.pick(&[25, 25, 25, 90]);
     let mut tree = Tree { draft: Draft::default(), fullness, room, used: 0 };
     tree.add(random, 0);
     for block in BLOCKS {
         if block == rows()[wanted].block() {
             tree.block(random, block, &path);
-        } else if block == b'0' || block == b'9' || (room > TIGHT && random.percent(25)) {
+        } else if block == b'0' || block == b'9' || (room > TIGHT && random.percent(others)) {
             tree.block(random, block, &[]);
         }
     }
