@@ -12,7 +12,8 @@ const STAND_IN: &str = env!("CARGO_BIN_EXE_stand-in");
 const SHORT_RUN: &str = "550";
 
 /// Faults that only the longest files show, so that a short run passes.
-const SEEN_IN_LONG_RUNS: [&str; 1] = ["counts-in-16-bits"];
+const SEEN_IN_LONG_RUNS: [&str; 3] =
+    ["counts-in-16-bits", "totals-in-16-bits", "totals-at-most-65535"];
 
 fn kept(name: &str) -> PathBuf {
     let path = Path::new(env!("CARGO_TARGET_TMPDIR")).join("comparison").join(name);
@@ -104,7 +105,7 @@ fn short_runs_say_what_they_did_not_show() {
 #[test]
 fn every_fault_is_caught() {
     let faults = faults();
-    assert_eq!(faults.len(), 111);
+    assert_eq!(faults.len(), 151);
     for fault in faults.iter().filter(|fault| !SEEN_IN_LONG_RUNS.contains(&fault.as_str())) {
         assert_caught(fault, &["--cases", SHORT_RUN]);
     }
@@ -122,6 +123,10 @@ fn faults_are_caught_with_other_seeds() {
         ("position-counted-in-its-piece", "8"),
         ("2-at-a-wrong-character", "9"),
         ("too-many-decimals-at-the-end", "10"),
+        ("total-has-line-refused-by-9", "11"),
+        ("total-rises-at-finish", "12"),
+        ("totals-lost-after-18", "13"),
+        ("totals-at-most-255", "14"),
     ] {
         assert_caught(fault, &["--cases", SHORT_RUN, "--seed", seed]);
     }
@@ -205,33 +210,50 @@ fn programs_that_cannot_be_compared() {
     assert_eq!(compare("true", &kept("wrong"), &["--other"]).status.code(), Some(2));
 }
 
+/// Writes a batch and gives the file of its commands, and the answers to them.
+fn stored(seed_and_count: [&str; 2], keep: &Path, name: &str) -> (PathBuf, Vec<u8>) {
+    fs::create_dir_all(keep).unwrap();
+    let (commands, answers) = (keep.join(format!("{name}.in")), keep.join(format!("{name}.out")));
+    let mut process = Command::new(env!("CARGO_BIN_EXE_stored"));
+    let status = process.args(seed_and_count).arg(&commands).arg(&answers).status().unwrap();
+    assert!(status.success());
+    (commands, fs::read(answers).unwrap())
+}
+
+fn assert_all_numbers(answers: &str) {
+    for number in (1..=15).chain([17, 18, 24]) {
+        assert!(answers.contains(&format!("\nrefused {number} ")), "{number}");
+    }
+    assert!(answers.contains("\naccepted "));
+}
+
 #[test]
 fn stored_batches() {
     let keep = kept("stored");
-    fs::create_dir_all(&keep).unwrap();
-    let store = |name: &str| {
-        let (commands, answers) =
-            (keep.join(format!("{name}.in")), keep.join(format!("{name}.out")));
-        let mut process = Command::new(env!("CARGO_BIN_EXE_stored"));
-        let status = process.args(["8", "300"]).arg(&commands).arg(&answers).status().unwrap();
-        assert!(status.success());
-        (commands, fs::read(answers).unwrap())
-    };
-    let (commands, answers) = store("one");
+    let (commands, answers) = stored(["8", "300"], &keep, "one");
     assert_eq!(fed(&[], &commands), answers);
     for fault in ["loses-cr", "position-of-last-wrong-byte", "2-in-a-code-has-no-position"] {
         assert_ne!(fed(&[fault], &commands), answers, "{fault}");
     }
-    let (again, same) = store("other");
+    let (again, same) = stored(["8", "300"], &keep, "other");
     assert_eq!((fs::read(&commands).unwrap(), answers.clone()), (fs::read(again).unwrap(), same));
     let text = String::from_utf8(answers).unwrap();
-    for number in (1..=15).chain([24]) {
-        assert!(text.contains(&format!("\nrefused {number} ")), "{number}");
-    }
-    assert!(text.contains("\naccepted "));
+    assert_all_numbers(&text);
     for line in text.lines() {
         let (_, totals) = line.split_once(" totals ").expect("every answer has them");
         let are_numbers = totals.split(' ').all(|total| total.parse::<u64>().is_ok());
         assert!(are_numbers && totals.split(' ').count() == 7, "{line}");
+    }
+}
+
+/// The batch that is kept shows all faults in totals but those that take a file
+/// of more than 255 lines; it has none.
+#[test]
+fn the_kept_batch_shows_the_faults_in_totals() {
+    let (commands, answers) = stored(["11", "200"], &kept("stored-totals"), "batch");
+    assert_all_numbers(&String::from_utf8_lossy(&answers));
+    let is_long = |fault: &str| fault.contains("-bits") || fault.contains("at-most");
+    for fault in faults().iter().filter(|fault| fault.contains("total")) {
+        assert_eq!(fed(&[fault], &commands) == answers, is_long(fault), "{fault}");
     }
 }

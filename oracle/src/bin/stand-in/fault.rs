@@ -1,10 +1,12 @@
 //! The faults, each the honest behaviour with one thing other.
 
+use crate::shown::Shown;
 use crate::told::Told;
 use crate::{
-    check_digits, counts, forgives, forgives_fields, joins, positions, refuses_fields, says, sees,
+    check_digits, counts, forgives, forgives_fields, joins, lost_totals, positions, refuses_fields,
+    says, sees, totals,
 };
-use oracle::Answer;
+use oracle::{Answer, Totals};
 
 pub struct Fault {
     pub name: &'static str,
@@ -16,6 +18,8 @@ pub struct Fault {
     pub says: fn(&[u8], Answer) -> Answer,
     /// The position it gives with a refusal.
     pub position: fn(&Told) -> u64,
+    /// The totals it ends an answer with.
+    pub totals: fn(&Shown) -> Totals,
     /// The counts of its report, given the bytes it saw and whether finish was
     /// asked.
     pub counts: fn(&[u8], bool) -> [u64; 98],
@@ -38,6 +42,7 @@ pub const NONE: Fault = Fault {
     sees: <[u8]>::to_vec,
     says: |_, answer| answer,
     position: |told| told.position,
+    totals: |shown| shown.totals(),
     counts: |bytes, _| oracle::counts(bytes),
     numbers: |_, answer, _| answer.lines_and_bytes(),
     no_room: |_| Answer::misuse(18),
@@ -63,6 +68,10 @@ const fn placing(name: &'static str, position: fn(&Told) -> u64) -> Fault {
     Fault { name, position, ..NONE }
 }
 
+const fn totalling(name: &'static str, totals: fn(&Shown) -> Totals) -> Fault {
+    Fault { name, totals, ..NONE }
+}
+
 const fn counting(name: &'static str, counts: fn(&[u8], bool) -> [u64; 98]) -> Fault {
     Fault { name, counts, ..NONE }
 }
@@ -71,7 +80,7 @@ const fn numbering(name: &'static str, numbers: fn(&[u8], Answer, bool) -> (u64,
     Fault { name, numbers, ..NONE }
 }
 
-pub const FAULTS: [Fault; 106] = [
+pub const FAULTS: [Fault; 145] = [
     joining("loses-cr", joins::without_last_cr),
     joining("loses-cr-at-empty-piece", joins::cr_lost_at_empty_piece),
     joining("loses-code", joins::code_lost),
@@ -169,6 +178,45 @@ pub const FAULTS: [Fault; 106] = [
     numbering("reports-no-refused-byte", counts::without_refused_byte),
     numbering("reports-bytes-received", counts::bytes_received),
     numbering("reports-no-numbers-after-finish", counts::no_numbers_after_finish),
+    totalling("total-of-next-block", totals::of_next_block),
+    totalling("total-of-block-before-an-opening", totals::opening_in_block_before),
+    totalling("total-of-block-after-a-closing", totals::closing_in_next_block),
+    totalling("total-of-g-has-h", totals::h_in_g),
+    totalling("total-of-0-has-9999", totals::end_in_block_0),
+    totalling("total-has-refused-line", totals::of_refused_line),
+    totalling("total-has-line-refused-by-9", totals::of_line_refused_by::<9>),
+    totalling("total-has-line-refused-by-13", totals::of_line_refused_by::<13>),
+    totalling("total-has-line-at-hand", totals::of_line_at_hand),
+    totalling("total-rises-at-cr", totals::at_cr),
+    totalling("total-rises-at-finish", totals::of_line_at_finish),
+    totalling("total-rises-after-refusal", totals::after_refusal),
+    totalling("total-has-late-lines", totals::of_late_pieces),
+    totalling("total-without-0000", totals::without_0000),
+    totalling("total-without-9999", totals::without_9999),
+    totalling("total-without-openings", totals::without_openings),
+    totalling("total-without-closings", totals::without_closings),
+    totalling("total-without-deeper-lines", totals::without_deeper_lines),
+    totalling("total-of-f-stays-0", totals::without_f),
+    totalling("total-without-lines-that-end-a-piece", totals::without_piece_ends),
+    totalling("total-without-cut-lines", totals::without_cut_lines),
+    totalling("total-of-last-piece", totals::of_last_piece),
+    totalling("totals-lost-at-finish", lost_totals::at_finish),
+    totalling("totals-lost-at-refusal", lost_totals::at_refusal),
+    totalling("totals-lost-at-repeated-refusal", lost_totals::at_repeated_refusal),
+    totalling("totals-lost-at-empty-piece", lost_totals::at_empty_piece),
+    totalling("totals-lost-after-17", lost_totals::after_17),
+    totalling("totals-lost-after-18", lost_totals::after_18),
+    totalling("totals-lost-after-report", lost_totals::after_report),
+    totalling("17-without-totals", lost_totals::with_17),
+    totalling("18-without-totals", lost_totals::with_18),
+    totalling("totals-one-call-late", lost_totals::one_call_late),
+    totalling("totals-go-on-in-next-file", lost_totals::go_on_in_next_file),
+    totalling("totals-backwards", lost_totals::backwards),
+    totalling("totals-in-order-of-bytes", lost_totals::in_order_of_bytes),
+    totalling("totals-in-8-bits", lost_totals::in_bits::<8>),
+    totalling("totals-at-most-255", lost_totals::at_most::<255>),
+    totalling("totals-in-16-bits", lost_totals::in_bits::<16>),
+    totalling("totals-at-most-65535", lost_totals::at_most::<65_535>),
     Fault { name: "forgets-17", ends_with: |_| false, ..NONE },
     Fault { name: "goes-on-after-14", ends_with: says::is_not_14, ..NONE },
     Fault { name: "room-17", no_room: |_| Answer::misuse(17), ..NONE },

@@ -1,7 +1,7 @@
 //! A checker with one fault in it.
 
 use crate::fault::Fault;
-use crate::shown::Shown;
+use crate::shown::{sum, Call, Past, Shown};
 use crate::told::with_position;
 use crate::Answers;
 use oracle::compare::{answer_text, counts_text, with_totals, Command};
@@ -18,38 +18,45 @@ pub struct Faulty {
     /// The oracle's judgement of what it takes these for.
     judged: Judgement,
     finished: bool,
+    past: Past,
 }
 
 impl Answers for Faulty {
     fn answer(&mut self, command: &Command) -> Option<String> {
-        let text = match command {
+        let finished = self.finished;
+        let in_time = |call: Call| if finished { Call::Late } else { call };
+        let (call, text) = match command {
             Command::New => {
                 self.start_anew();
                 return None;
             }
-            Command::Piece(piece) => answer_text(self.piece(piece)),
-            Command::Finish => answer_text(self.finish()),
-            Command::Counts => self.report(),
-            Command::ShortCounts => {
-                if self.fault.short_report_clears {
-                    self.start_anew();
-                }
-                answer_text((self.fault.no_room)(self.so_far()))
-            }
+            Command::Piece(piece) => (in_time(Call::Piece), answer_text(self.piece(piece))),
+            Command::Finish => (in_time(Call::Finish), answer_text(self.finish())),
+            Command::Counts => (Call::Report, self.report()),
+            Command::ShortCounts => (Call::ReportWithoutRoom, self.short_report()),
         };
-        Some(with_totals(text, &self.totals()))
+        Some(with_totals(text, &self.totals(call)))
     }
 }
 
 impl Faulty {
     pub fn new(fault: &'static Fault) -> Self {
-        let (all, pieces, joined) = (Vec::new(), Vec::new(), Vec::new());
-        Faulty { fault, all, pieces, joined, judged: judgement(&[]), finished: false }
+        Faulty {
+            fault,
+            all: Vec::new(),
+            pieces: Vec::new(),
+            joined: Vec::new(),
+            judged: judgement(&[]),
+            finished: false,
+            past: Past::default(),
+        }
     }
 
     fn start_anew(&mut self) {
         let finished = self.finished && self.fault.stays_finished;
-        *self = Faulty { finished, ..Self::new(self.fault) };
+        let other_files = sum(self.past.other_files, self.past.totals);
+        let past = Past { other_files, ..Past::default() };
+        *self = Faulty { finished, past, ..Self::new(self.fault) };
     }
 
     fn take(&mut self, piece: &[u8]) {
@@ -65,6 +72,7 @@ impl Faulty {
 
     fn piece(&mut self, piece: &[u8]) -> Answer {
         if self.finished {
+            self.past.late.extend_from_slice(piece);
             if self.fault.takes_after_finish {
                 self.take(piece);
             }
@@ -100,7 +108,26 @@ impl Faulty {
         counts_text(lines, bytes, &counts)
     }
 
-    fn totals(&self) -> Totals {
-        Shown { all: &self.all, said: self.so_far() }.totals()
+    fn short_report(&mut self) -> String {
+        if self.fault.short_report_clears {
+            self.start_anew();
+        }
+        answer_text((self.fault.no_room)(self.so_far()))
+    }
+
+    /// The totals it ends the answer to this call with.
+    fn totals(&mut self, call: Call) -> Totals {
+        let shown = Shown {
+            call,
+            all: &self.all,
+            pieces: &self.pieces,
+            said: self.so_far(),
+            finished: self.finished,
+            past: &self.past,
+        };
+        let (right, totals) = (shown.totals(), (self.fault.totals)(&shown));
+        self.past.totals = right;
+        self.past.calls.push(call);
+        totals
     }
 }

@@ -11,12 +11,14 @@ mod forgives;
 mod forgives_fields;
 mod honest;
 mod joins;
+mod lost_totals;
 mod positions;
 mod refuses_fields;
 mod says;
 mod sees;
 mod shown;
 mod told;
+mod totals;
 
 use fault::{FAULTS, NONE};
 use faulty::Faulty;
@@ -26,8 +28,8 @@ use std::io::{self, BufReader, BufWriter, Write};
 use std::process::ExitCode;
 
 /// Faults of the process, not of an answer.
-const OF_PROCESS: [&str; 5] =
-    ["ends-early", "one-line-more", "bad-status", "says-nothing", "no-last-lf"];
+const OF_PROCESS: [&str; 6] =
+    ["ends-early", "one-line-more", "bad-status", "says-nothing", "no-last-lf", "no-totals"];
 
 trait Answers {
     fn answer(&mut self, command: &Command) -> Option<String>;
@@ -65,6 +67,8 @@ fn serve(answers: &mut dyn Answers, name: &str) -> io::Result<ExitCode> {
             "says-nothing" => {}
             "no-last-lf" if answered > 1 => write!(to, "\n{text}")?,
             "no-last-lf" => write!(to, "{text}")?,
+            // the line as it was before request g
+            "no-totals" => writeln!(to, "{}", text.split(" totals").next().unwrap_or_default())?,
             _ => writeln!(to, "{text}")?,
         }
         if name == "ends-early" && answered == 5000 {
