@@ -7,7 +7,8 @@
  *
  * A command is a letter and a length of 4 bytes, low byte first, that is 0
  * except for P: N new file, P and so many bytes a piece, F finish, C report,
- * S report with room for one count too few.
+ * S report with room for one count too few. Each answer is followed by the
+ * block totals, in the same line.
  */
 #include <assert.h>
 #include <inttypes.h>
@@ -148,6 +149,10 @@ enum role { START, OPENING, DATA, CLOSING, END };
 enum { ROWS(ROW_NUMBER) ROW_NONE };
 static_assert(ROW_NONE == 98, "98 rows");
 
+/* The blocks in the order they come in. */
+enum { BLOCK_0, BLOCK_C, BLOCK_E, BLOCK_F, BLOCK_G, BLOCK_H, BLOCK_9, BLOCK_NONE };
+static_assert(BLOCK_NONE == 7, "7 blocks");
+
 /* A code's four bytes as one number; the digits are the number's nibbles. */
 enum { AT_0 = '0', AT_C = 'C', AT_E = 'E', AT_F = 'F', AT_G = 'G', AT_H = 'H', AT_9 = '9' };
 #define NIBBLES(n) (((n)&0xF00u) << 8 | ((n)&0x0F0u) << 4 | ((n)&0x00Fu))
@@ -156,12 +161,13 @@ enum { AT_0 = '0', AT_C = 'C', AT_E = 'E', AT_F = 'F', AT_G = 'G', AT_H = 'H', A
 struct row {
     uint32_t code;
     uint16_t most;
-    uint8_t number, fields, level, parent, role;
+    uint8_t number, block, fields, level, parent, role;
     const struct kind *kinds;
 };
 
-#define ROW(block, number, fields, level, most, parent, role, kinds) \
-    {CODE_OF(block, number), most, ROW_##block##number, fields, level, ROW_##parent, role, kinds},
+#define ROW(block, number, fields, level, most, parent, role, kinds)   \
+    {CODE_OF(block, number), most, ROW_##block##number, BLOCK_##block, \
+     fields, level, ROW_##parent, role, kinds},
 static const struct row rows[] = {ROWS(ROW)};
 
 #define HAS_ITS_KINDS(block, number, fields, level, most, parent, role, kinds) \
@@ -230,13 +236,13 @@ struct checker {
     uint32_t left; /* fields to end, the one in hand included */
     int level;
     struct { uint32_t row, line; } open[LEVELS];
-    uint32_t lines_before; /* lines ended before the block */
-    uint64_t mark;         /* field 2 of its opening */
-    uint64_t count;        /* the true one, where the line says one */
+    uint64_t mark;  /* field 2 of its opening */
+    uint64_t count; /* the true one, where the line says one */
 
     /* for each row: how often under which parent line, and over the file */
     struct { uint32_t parent, times; } under[ROW_NONE];
     uint32_t counts[ROW_NONE];
+    uint32_t totals[BLOCK_NONE]; /* for each block: its lines ended */
 
     unsigned refusal, refused_field; /* where the stage is REFUSED */
 };
@@ -321,13 +327,10 @@ static void open_line(struct checker *c, const struct row *row)
     c->open[row->level].line = c->lines + 1;
 }
 
+/* A block comes only once, so its total is the number of its lines before this one. */
 static void set_count(struct checker *c, const struct row *row)
 {
-    if (row->role == OPENING && row->number != ROW_0001)
-        c->lines_before = c->lines;
-    c->count = c->lines + 1;
-    if (row->role == CLOSING)
-        c->count -= c->lines_before;
+    c->count = (row->role == CLOSING ? c->totals[row->block] : c->lines) + 1;
     if (row->number == ROW_9990)
         c->count++;
 }
@@ -761,6 +764,7 @@ static enum stage line_feed(struct checker *c, place *at)
         return refuse(c, 9, 0);
     c->lines++;
     c->counts[c->row->number]++;
+    c->totals[c->row->block]++;
     return c->row->role == END ? FILE_END : LINE_START;
 }
 
@@ -935,13 +939,23 @@ static bool check_input(void)
     return true;
 }
 
+/* They are the state's and not the answer's: 17 and 18 say 0 lines and leave the totals as they are. */
+static void print_totals(void)
+{
+    printf(" totals");
+    for (size_t i = 0; i < BLOCK_NONE; i++)
+        printf(" %" PRIu32, checker.totals[i]);
+    printf("\n");
+}
+
 static void print_answer(struct answer a)
 {
     if (a.result == IS_REFUSED)
         printf("refused %u %u %u %" PRIu64, a.number, a.line, a.field, a.byte);
     else
         printf("%s", a.result == STILL_OPEN ? "open" : "accepted");
-    printf(" %u %" PRIu64 "\n", a.lines, a.bytes);
+    printf(" %u %" PRIu64, a.lines, a.bytes);
+    print_totals();
 }
 
 static void print_report(size_t room)
@@ -955,7 +969,7 @@ static void print_report(size_t room)
     printf("counts %u %" PRIu64, a.lines, a.bytes);
     for (size_t i = 0; i < ROW_NONE; i++)
         printf(" %" PRIu32, counts[i]);
-    printf("\n");
+    print_totals();
 }
 
 static bool obey(uint8_t letter, uint32_t length)
