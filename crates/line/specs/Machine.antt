@@ -2,7 +2,7 @@
 use mathlib.Core.Bool.{Bool, not, _&&_, _||_}
 use mathlib.Core.Path.{_≡_}
 use mathlib.Core.List.{List}
-use Prim.Native.Nat.{ℕ, _+_, _≤_}
+use Prim.Native.Nat.{ℕ, _+_, _≤_, _<_}
 use lib.Dec.{eqb, leb, ltb}
 use lib.ListN.{getD}
 use Rattle.layout.specs.Pick.{pick}
@@ -39,7 +39,8 @@ withData = 1
 abbrev pub withoutData : ℕ
 withoutData = 2
 
--- what a step may be asked of: the ranges of the stored numbers (docs/STATE.md). The byte that breaks rule 16 is judged too.
+-- what a step may be asked of: the ranges of the stored numbers (docs/STATE.md). The byte that breaks rule 16 is judged too, and
+-- past field 1 a line's row is known.
 pub record HotFit (h : Hot) : Type 0 where
   pub bytes : h .bytes ≤ byteLimit + 1
   pub lines : h .lines ≤ h .bytes
@@ -48,6 +49,8 @@ pub record HotFit (h : Hot) : Type 0 where
   pub says : h .says ≤ withoutData
   pub bars : h .bars ≤ mostBars
   pub row : h .row ≤ rowCount
+  pub coded : 2 ≤ h .bars → h .row < rowCount
+  pub someField : 1 ≤ h .fields
   pub fields : h .fields ≤ mostFields
   pub kind : h .kind ≤ mostKind
   pub length : h .field .length ≤ h .bytes

@@ -1,6 +1,6 @@
 // A batch of calls from standard input, for the comparison with the independent checker. Each command is a letter and a
 // four-byte length, lowest byte first; a piece's bytes follow it. N: a new file; P: a piece; F: finish; C: report; S: a report with
-// room for too few counts. Each answer is a line.
+// room for too few counts. Each answer is a line, with the blocks' totals after the call at its end.
 use layout::rows::ROWS;
 use libc::STDIN_FILENO;
 use libc::STDOUT_FILENO;
@@ -15,7 +15,18 @@ fn number(n: u64) {
     io::print_decimal(STDOUT_FILENO, n);
 }
 
-fn end() {
+fn print_all(numbers: &[u64]) {
+    for i in 0..numbers.len() {
+        number(numbers[i]);
+    }
+}
+
+// The end of an answer's line: the totals that the call left.
+fn end(s: State) {
+    let tally = s.tally;
+    let totals = tally.totals;
+    io::write_all(STDOUT_FILENO, b" totals");
+    print_all(&totals);
     io::write_all(STDOUT_FILENO, b"\n");
 }
 
@@ -45,20 +56,14 @@ fn stated(head: &[u8; HEAD]) -> usize {
     low + high * 65536
 }
 
-fn print_counts(counts: &[u64; ROWS]) {
-    for i in 0..ROWS {
-        number(counts[i]);
-    }
-}
-
 fn report(s: State) {
     let mut counts = [0u64; ROWS];
     let numbers = sef::answers::report_numbers(sef::calls::report(s, &mut counts));
     print(b"counts", numbers);
     if numbers.refusal == 0 {
-        print_counts(&counts);
+        print_all(&counts);
     }
-    end();
+    end(s);
 }
 
 // A report with room for one count too few.
@@ -68,7 +73,7 @@ fn no_room(s: State) {
         b"counts",
         sef::answers::report_numbers(sef::calls::report(s, &mut counts)),
     );
-    end();
+    end(s);
 }
 
 // The piece's bytes, read to the block's start.
@@ -86,8 +91,8 @@ fn check(s: State, block: &[u8], n: usize) -> State {
     let checked = sef::calls::check(s, &block[..n]);
     let answer = checked.answer;
     print(b"open", sef::answers::answer_numbers(answer));
-    end();
     let next = checked.state;
+    end(next);
     next
 }
 
@@ -102,8 +107,8 @@ fn finish(s: State) -> State {
     let finished = sef::calls::finish(s);
     let answer = finished.answer;
     print(b"accepted", sef::answers::final_numbers(answer));
-    end();
     let next = finished.state;
+    end(next);
     next
 }
 

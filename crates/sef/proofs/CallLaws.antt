@@ -2,6 +2,7 @@
 use mathlib.Core.Path.{_≡_, _∙_, sym, ap}
 use mathlib.Core.Bool.{true, false}
 use mathlib.Core.List.{List, _++_}
+use mathlib.Core.Logic.{inr}
 use Prim.Native.Nat.{ℕ, _<_, _≤_}
 use native.Mathlib.Omega.{arith}
 use lib.ListN.{length, drop}
@@ -24,7 +25,8 @@ use Rattle.sef.specs.declared.answers.FinalAnswer.the-variants as Final
 use Rattle.sef.specs.declared.answers.ReportAnswer.the-variants as Report
 use Rattle.sef.proofs.CallCases.{check-damaged, check-late, check-kept, check-run, finish-damaged, finish-late, finish-now}
 use Rattle.sef.proofs.InRangeLaws.{check-ranged, finish-ranged}
-use Rattle.sef.proofs.Joined.{given-ranged, given-counts, given-ended, check-joined, check-counted, finish-joined}
+use Rattle.sef.proofs.Joined.{given-ranged, given-counts, given-totals, given-ended, check-joined, check-counted}
+use Rattle.sef.proofs.Joined.{check-totalled, finish-joined}
 
 -- A piece.
 module _ (s : State) (piece : List ℕ) (all : AllBytes piece) where
@@ -35,6 +37,7 @@ module _ (s : State) (piece : List ℕ) (all : AllBytes piece) where
         inRange = λ h. rw e (check-ranged s h piece all);
         joined = λ file h. rw e (check-joined file s h piece);
         counted = λ file h. rw e (check-counted file s h piece);
+        totalled = λ file h. rw e (check-totalled file s h piece);
         reached = λ file h. rw e (more h piece all);
       }
 
@@ -62,6 +65,7 @@ module _ (s : State) where
         exact = e;
         inRange = λ h. rw e (finish-ranged s h);
         joined = λ file h. ap (λ c. finallySaid (c .answer)) e ∙ finish-joined file s h;
+        totalled = λ file h. rw e (given-totals file (finishOf s .state) (inr (done h)));
         closed = λ file h. rw e (done h);
       }
 

@@ -8,7 +8,7 @@ use Rattle.layout.specs.Kinds.{kindOf, sheetOf, fitted, kindsOf, kind}
 use Rattle.layout.specs.Packed.{kindNumber}
 use Rattle.rules.specs.Bytes.{cut, lines, lineAtHand, part, field, rowOfWord, rowOf, rows, rowAtHand, bars, word}
 use Rattle.rules.specs.Order.{last}
-use Rattle.rules.specs.Counts.{linesOfRow, countsOfRows}
+use Rattle.rules.specs.Counts.{linesOfRow, linesOfBlock, countsOfRows, totalsOfRows}
 use Rattle.layout.specs.Lists.{tabulate}
 use Rattle.rules.proofs.BlockLaws.{since}
 use Rattle.rules.proofs.OccurrenceLaws.{stamps, occurrences, stamped, occurred}
@@ -22,6 +22,7 @@ fresh-open : fresh ≡ openAt [] .state
 unfolding fresh openOf says lastSays lines rows last since cut lineAtHand bars word rowAtHand rowOf rowOfWord
     field part fields listed rowTable kind kindsOf isOpening isClosing code bytes codeNumber textNumber
     fitted kindOf sheetOf sheets kindNumber fieldAfter countsOfRows tabulate linesOfRow stamps stamped occurrences occurred
+    totalsOfRows linesOfBlock
 fresh-open = refl
 
 pub fresh-is : fresh ≡ checkedAfter [] .state

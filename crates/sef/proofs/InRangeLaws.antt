@@ -7,10 +7,13 @@ use native.Mathlib.Omega.{arith}
 use lib.Dec.{eqb}
 use borrow.Author.Tests.{eqb-true, eqb-false}
 use Rattle.layout.specs.Pick.{pick}
+use Rattle.layout.specs.Text.{bytes, codeNumber, textNumber}
+use Rattle.layout.specs.Rows.{rowTable, listed, code, block, placeOf, blockLetters}
+use Rattle.rules.specs.Totals.{sum, sumOfBlock}
 use Rattle.line.specs.Machine.{mostBars, positionOf}
 use Rattle.sef.specs.Calls.{stateOf, openOf, stoppedOf, judgedOne, runOf, fresh, keptOf, unchanged, checkOf, finalAnswerOf}
 use Rattle.sef.specs.Calls.{closedOf, finallyUnchanged, finishOf}
-use Rattle.sef.specs.Ranges.{withinTo, lineRanged, hotRanged, isRule, refusalRanged, tallyRanged, rangedOf, Held}
+use Rattle.sef.specs.Ranges.{allBelow, lineRanged, hotRanged, isRule, refusalRanged, tallyRanged, rangedOf, Held}
 use Rattle.sef.specs.Ranges.{TallyFit}
 use Rattle.sef.specs.Promises.{AllBytes}
 use Rattle.line.specs.declared.hot.Hot.{Hot}
@@ -25,7 +28,8 @@ use Rattle.sef.proofs.StepRanges.{judged-fit, position-ranged}
 use Rattle.sef.proofs.RunLaws.{Comes, opens, stops-by, run-comes}
 
 pub fresh-ranged : rangedOf fresh ≡ true
-unfolding rangedOf hotRanged lineRanged refusalRanged tallyRanged withinTo fresh
+unfolding rangedOf hotRanged lineRanged refusalRanged tallyRanged allBelow sum sumOfBlock block placeOf blockLetters code listed
+    rowTable bytes codeNumber textNumber fresh
 fresh-ranged = refl
 
 -- What a piece comes to.
@@ -34,13 +38,16 @@ unfolding openOf
 opened-ranged h t d = ranged-by (stateOf h 0 0 0 false t) (d .fit) (d .tally) (open-ranged (h .bytes) (d .withinLimit))
 
 -- the refusing byte is judged too
-judged-tally : (h : Hot) (t : Tally) → Held h t → TallyFit t (h .bytes + 1)
+judged-tally : (h : Hot) (t : Tally) → Held h t → TallyFit t (h .lines) (h .bytes + 1)
 judged-tally h t d =
     let f = d .tally in
     record {
-      counts = λ k l. omega (arith, f .counts k l);
+      eachRow = f .eachRow;
+      eachBlock = f .eachBlock;
       stamps = λ k l. omega (arith, f .stamps k l);
       occurrences = λ k l. omega (arith, f .occurrences k l);
+      totals = f .totals;
+      addUp = f .addUp;
     }
 
 pub stopped-ranged : (h : Hot) (t : Tally) (rule field : ℕ) → Held h t → isRule rule ≡ true → field ≤ mostBars

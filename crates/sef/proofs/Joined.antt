@@ -5,7 +5,7 @@ use mathlib.Core.Bool.{true, false, true≢false}
 use mathlib.Core.List.{List, [], _++_, reverse, reverseAux-append}
 use mathlib.Core.Logic.{⊎-elim}
 use Prim.Native.Nat.{ℕ}
-use Rattle.rules.specs.Verdict.{verdictOf, finalOf, countsOf}
+use Rattle.rules.specs.Verdict.{verdictOf, finalOf, countsOf, totalsOf}
 use Rattle.sef.specs.Answers.{numbersOf, said, finallySaid}
 use Rattle.sef.specs.Calls.{checkOf, closedOf, finishOf}
 use Rattle.sef.specs.Ranges.{rangedOf}
@@ -14,7 +14,7 @@ use Rattle.sef.specs.declared.state.State.{State}
 use Rattle.sef.specs.declared.answers.Finished.{Finished}
 use Rattle.sef.proofs.InRangeLaws.{fresh-ranged, check-ranged, finish-ranged, Finishing, late, closes, finish-finishing}
 use Rattle.sef.proofs.StateAfter.{checkedAfter, check-after, finish-after, said-after, ended-after, counts-after}
-use Rattle.sef.proofs.StateAfter.{open-after}
+use Rattle.sef.proofs.StateAfter.{totals-after, open-after}
 use Rattle.sef.proofs.FreshState.{fresh-is}
 
 pub reached-ranged : (file : List ℕ) (s : State) → Reached file s → rangedOf s ≡ true
@@ -51,6 +51,10 @@ module _ (file : List ℕ) (s : State) (r : Reached file s) where
   unfolding countsOf
   reached-counts = ap (λ t. t .tally .counts) same-state ∙ counts-after (reverse file)
 
+  reached-totals : s .tally .totals ≡ totalsOf file
+  unfolding totalsOf
+  reached-totals = ap (λ t. t .tally .totals) same-state ∙ totals-after (reverse file)
+
   reached-ended : (s .hot .lines ≡ numbersOf (verdictOf file) .lines) × (s .hot .bytes ≡ numbersOf (verdictOf file) .bytes)
   unfolding verdictOf
   reached-ended =
@@ -67,6 +71,10 @@ module _ (file : List ℕ) (s : State) (r : Reached file s) where
   pub check-counted : (piece : List ℕ) → checkOf s piece .state .tally .counts ≡ countsOf (file ++ piece)
   unfolding countsOf
   check-counted piece = ap (λ c. c .state .tally .counts) (check-is piece) ∙ counts-after (reverse (file ++ piece))
+
+  pub check-totalled : (piece : List ℕ) → checkOf s piece .state .tally .totals ≡ totalsOf (file ++ piece)
+  unfolding totalsOf
+  check-totalled piece = ap (λ c. c .state .tally .totals) (check-is piece) ∙ totals-after (reverse (file ++ piece))
 
   pub finish-joined : finallySaid (finishOf s .answer) ≡ finalOf file
   unfolding finalOf
@@ -89,6 +97,9 @@ closed-ranged file s (done {s = t} r) = finish-ranged t (reached-ranged file t r
 closed-counts : (file : List ℕ) (s : State) → Closed file s → s .tally .counts ≡ countsOf file
 closed-counts file s (done {s = t} r) = ap (λ u. u .tally .counts) (closes-state file t r) ∙ reached-counts file t r
 
+closed-totals : (file : List ℕ) (s : State) → Closed file s → s .tally .totals ≡ totalsOf file
+closed-totals file s (done {s = t} r) = ap (λ u. u .tally .totals) (closes-state file t r) ∙ reached-totals file t r
+
 closed-ended : (file : List ℕ) (s : State) → Closed file s
     → (s .hot .lines ≡ numbersOf (verdictOf file) .lines) × (s .hot .bytes ≡ numbersOf (verdictOf file) .bytes)
 closed-ended file s (done {s = t} r) =
@@ -103,6 +114,9 @@ module _ (file : List ℕ) (s : State) (given : Given file s) where
 
   pub given-counts : s .tally .counts ≡ countsOf file
   given-counts = ⊎-elim (reached-counts file s) (closed-counts file s) given
+
+  pub given-totals : s .tally .totals ≡ totalsOf file
+  given-totals = ⊎-elim (reached-totals file s) (closed-totals file s) given
 
   pub given-ended : (s .hot .lines ≡ numbersOf (verdictOf file) .lines) × (s .hot .bytes ≡ numbersOf (verdictOf file) .bytes)
   given-ended = ⊎-elim (reached-ended file s) (closed-ended file s) given

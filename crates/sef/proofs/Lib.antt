@@ -1,6 +1,9 @@
 pub mod RangeLaws
 pub mod FillLaws
+pub mod SumLaws
+pub mod PartLaws
 pub mod StepRanges
+pub mod StepLines
 pub mod TallyRanges
 pub mod RunLaws
 pub mod CallCases
@@ -12,4 +15,5 @@ pub mod FreshState
 pub mod Joined
 pub mod CallLaws
 pub mod CallViews
+pub mod Promises
 pub mod Demands

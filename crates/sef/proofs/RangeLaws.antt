@@ -1,4 +1,4 @@
--- The ranges: the loop that tests an array, and what the tests say, in both directions.
+-- The ranges: the loops that test arrays, and what the tests say, in both directions.
 use mathlib.Core.Path.{_≡_, refl}
 use mathlib.Core.Bool.{Bool, true, false, _&&_, _||_, or-true}
 use mathlib.Core.List.{List}
@@ -6,46 +6,60 @@ use Prim.Native.Nat.{ℕ, zero, suc, _+_, _-_, _<_, _≤_}
 use native.Mathlib.Omega.{arith}
 use native.Mathlib.Numerals.{sub-one}
 use native.Mathlib.Decide.{ℕ-discrete}
-use lib.Dec.{eqb, leb}
-use lib.ListN.{getD}
-use borrow.Author.Tests.{eq-eqb, ne-eqb, eqb-true, le-leb, lt-leb, leb-true}
-use Rattle.layout.specs.Rows.{rowCount, mostFields}
+use lib.Dec.{eqb, leb, ltb}
+use lib.ListN.{length, getD}
+use borrow.Author.Tests.{eq-eqb, ne-eqb, eqb-true, le-leb, lt-leb, leb-true, leb-false, lt-ltb, ltb-true}
+use Rattle.layout.specs.Rows.{rowCount, mostFields, blocks}
 use Rattle.layout.specs.Packed.{mostKind}
 use Rattle.rules.specs.Rules.{byteLimit}
-use Rattle.rules.proofs.TestLaws.{both, and-left, and-right, and-false}
+use Rattle.rules.specs.Totals.{sum, blockCount}
+use Rattle.rules.proofs.TestLaws.{both, split, and-left, and-right, and-false}
 use Rattle.field.specs.Streaming.{cap}
 use Rattle.line.specs.Machine.{HotFit, mostBars, withoutData}
-use Rattle.sef.specs.Ranges.{withinTo, lineRanged, hotRanged, isRule, positionRanged, refusalRanged, tallyRanged}
-use Rattle.sef.specs.Ranges.{rangedOf, TallyFit, Held}
+use Rattle.sef.specs.Ranges.{allBelow, withinTo, totalsTo, lineRanged, hotRanged, isRule, positionRanged, refusalRanged}
+use Rattle.sef.specs.Ranges.{tallyRanged, rangedOf, TallyFit, Held}
 use Rattle.line.specs.declared.hot.Hot.{Hot}
 use Rattle.sef.specs.declared.state.State.{State}
 use Rattle.sef.specs.declared.state.Tally.{Tally}
 
--- The loop over an array, from its last entry down.
-module _ (m : ℕ) (xs : List ℕ) where
-  pub within-on : (i : ℕ) → 0 < i → getD xs (i - 1) 0 ≤ m → withinTo m xs i ≡ withinTo m xs (i - 1)
-  unfolding withinTo
-  within-on zero h l = absurd (omega arith)
-  within-on (suc j) h l = let e : suc j - 1 ≡ j = sub-one (suc j) in rw (e, le-leb (getD xs j 0) m (rw e at l))
+-- The loop over the numbers below a bound, from the last one down.
+module _ (test : ℕ → Bool) where
+  pub all-on : (i : ℕ) → 0 < i → test (i - 1) ≡ true → allBelow i test ≡ allBelow (i - 1) test
+  unfolding allBelow
+  all-on zero h t = absurd (omega arith)
+  all-on (suc j) h t = let e : suc j - 1 ≡ j = sub-one (suc j) in rw (e, rw e at t)
 
-  pub within-off : (i : ℕ) → 0 < i → m < getD xs (i - 1) 0 → withinTo m xs i ≡ false
-  unfolding withinTo
-  within-off zero h l = absurd (omega arith)
-  within-off (suc j) h l = let e : suc j - 1 ≡ j = sub-one (suc j) in rw (lt-leb (getD xs j 0) m (rw e at l))
+  pub all-off : (i : ℕ) → 0 < i → test (i - 1) ≡ false → allBelow i test ≡ false
+  unfolding allBelow
+  all-off zero h t = absurd (omega arith)
+  all-off (suc j) h t = let e : suc j - 1 ≡ j = sub-one (suc j) in rw (rw e at t)
 
-  within-at : (n : ℕ) → withinTo m xs n ≡ true → (k : ℕ) → k < n → getD xs k 0 ≤ m
-  unfolding withinTo
-  within-at zero e k h = absurd (omega arith)
-  within-at (suc n) e k h = go (ℕ-discrete k n) (within-at n (and-right (leb (getD xs n 0) m) (withinTo m xs n) e) k)
+  pub all-end : (i : ℕ) → i ≤ 0 → allBelow i test ≡ true
+  unfolding allBelow
+  all-end zero h = refl
+  all-end (suc j) h = absurd (omega arith)
+
+  all-at : (n : ℕ) → allBelow n test ≡ true → (k : ℕ) → k < n → test k ≡ true
+  unfolding allBelow
+  all-at zero e k h = absurd (omega arith)
+  all-at (suc n) e k h = go (ℕ-discrete k n) (all-at n (and-right (test n) (allBelow n test) e) k)
     where
-      go : Dec (k ≡ n) → (k < n → getD xs k 0 ≤ m) → getD xs k 0 ≤ m
-      go (yes p) r = rw p (leb-true _ _ (and-left (leb (getD xs n 0) m) (withinTo m xs n) e))
+      go : Dec (k ≡ n) → (k < n → test k ≡ true) → test k ≡ true
+      go (yes p) r = rw p (and-left (test n) (allBelow n test) e)
       go (no p) r = r (omega arith)
 
-  within-all : (n : ℕ) → ((k : ℕ) → k < n → getD xs k 0 ≤ m) → withinTo m xs n ≡ true
-  unfolding withinTo
-  within-all zero h = refl
-  within-all (suc n) h = rw (le-leb (getD xs n 0) m (h n (omega arith))) (within-all n (λ k l. h k (omega arith)))
+  all-below : (n : ℕ) → ((k : ℕ) → k < n → test k ≡ true) → allBelow n test ≡ true
+  unfolding allBelow
+  all-below zero h = refl
+  all-below (suc n) h = rw (h n (omega arith)) (all-below n (λ k l. h k (omega arith)))
+
+-- at each entry of an array
+module _ (m : ℕ) (xs : List ℕ) (n : ℕ) where
+  within-at : withinTo m xs n ≡ true → (k : ℕ) → k < n → getD xs k 0 ≤ m
+  within-at e k h = leb-true _ _ (all-at (λ j. leb (getD xs j 0) m) n e k h)
+
+  within-all : ((k : ℕ) → k < n → getD xs k 0 ≤ m) → withinTo m xs n ≡ true
+  within-all f = all-below (λ j. leb (getD xs j 0) m) n (λ k h. le-leb _ _ (f k h))
 
 -- The hot part.
 fit-of : (h : Hot) → hotRanged h ≡ true → HotFit h
@@ -62,17 +76,21 @@ fit-of h e =
     let e₂ = and-left (a && b) c e₃ in
     let p = leb (h .bars) mostBars in
     let r = leb (h .row) rowCount in
+    let q = leb (h .bars) 1 || ltb (h .row) rowCount in
+    let g = leb 1 (h .fields) in
     let f = leb (h .fields) mostFields in
     let k = leb (h .kind) mostKind in
     let l = leb (h .field .length) (h .bytes) in
     let w = leb (h .field .wrong) (h .field .length) in
     let v = leb (h .field .value) cap in
     let line = and-right (a && b && c && d && s) (lineRanged h) e in
-    let l₆ = and-left (p && r && f && k && l && w) v line in
-    let l₅ = and-left (p && r && f && k && l) w l₆ in
-    let l₄ = and-left (p && r && f && k) l l₅ in
-    let l₃ = and-left (p && r && f) k l₄ in
-    let l₂ = and-left (p && r) f l₃ in
+    let l₈ = and-left (p && r && q && g && f && k && l && w) v line in
+    let l₇ = and-left (p && r && q && g && f && k && l) w l₈ in
+    let l₆ = and-left (p && r && q && g && f && k) l l₇ in
+    let l₅ = and-left (p && r && q && g && f) k l₆ in
+    let l₄ = and-left (p && r && q && g) f l₅ in
+    let l₃ = and-left (p && r && q) g l₄ in
+    let l₂ = and-left (p && r) q l₃ in
     record {
       bytes = leb-true _ _ (and-left a b e₂);
       lines = leb-true _ _ (and-right a b e₂);
@@ -81,12 +99,21 @@ fit-of h e =
       says = leb-true _ _ (and-right (a && b && c && d) s e₅);
       bars = leb-true _ _ (and-left p r l₂);
       row = leb-true _ _ (and-right p r l₂);
-      fields = leb-true _ _ (and-right (p && r) f l₃);
-      kind = leb-true _ _ (and-right (p && r && f) k l₄);
-      length = leb-true _ _ (and-right (p && r && f && k) l l₅);
-      wrong = leb-true _ _ (and-right (p && r && f && k && l) w l₆);
-      value = leb-true _ _ (and-right (p && r && f && k && l && w) v line);
+      coded = λ two. ltb-true _ _ (rw (lt-leb (h .bars) 1 (omega arith)) at (and-right (p && r) q l₃));
+      someField = leb-true _ _ (and-right (p && r && q) g l₄);
+      fields = leb-true _ _ (and-right (p && r && q && g) f l₅);
+      kind = leb-true _ _ (and-right (p && r && q && g && f) k l₆);
+      length = leb-true _ _ (and-right (p && r && q && g && f && k) l l₇);
+      wrong = leb-true _ _ (and-right (p && r && q && g && f && k && l) w l₈);
+      value = leb-true _ _ (and-right (p && r && q && g && f && k && l && w) v line);
     }
+
+-- from its second bar on the line's row is known
+coded-or : (h : Hot) → HotFit h → (leb (h .bars) 1 || ltb (h .row) rowCount) ≡ true
+coded-or h f =
+    split (leb (h .bars) 1)
+    (λ t. rw t)
+    (λ t. let l = leb-false (h .bars) 1 t in rw (t, lt-ltb (h .row) rowCount (f .coded (omega arith))))
 
 hot-ranged : (h : Hot) → HotFit h → hotRanged h ≡ true
 unfolding hotRanged lineRanged
@@ -99,6 +126,8 @@ hot-ranged h f =
       le-leb (h .says) withoutData (f .says),
       le-leb (h .bars) mostBars (f .bars),
       le-leb (h .row) rowCount (f .row),
+      coded-or h f,
+      le-leb 1 (h .fields) (f .someField),
       le-leb (h .fields) mostFields (f .fields),
       le-leb (h .kind) mostKind (f .kind),
       le-leb (h .field .length) (h .bytes) (f .length),
@@ -106,28 +135,55 @@ hot-ranged h f =
       le-leb (h .field .value) cap (f .value),
     )
 
--- What is kept for each row.
-tally-fit : (t : Tally) (m : ℕ) → tallyRanged t m ≡ true → TallyFit t m
-unfolding tallyRanged
-tally-fit t m e =
-    let c = withinTo m (t .counts) rowCount in
-    let s = withinTo m (t .stamps) rowCount in
-    let o = withinTo m (t .occurrences) rowCount in
-    let e₂ = and-left (c && s) o e in
-    record {
-      counts = within-at m (t .counts) rowCount (and-left c s e₂);
-      stamps = within-at m (t .stamps) rowCount (and-right c s e₂);
-      occurrences = within-at m (t .occurrences) rowCount (and-right (c && s) o e);
-    }
+-- What is kept for each row and each block.
+module _ (t : Tally) (lines bytes : ℕ) where
+  abbrev eachRow : Bool
+  eachRow = eqb (length (t .counts)) rowCount
 
-tally-ranged : (t : Tally) (m : ℕ) → TallyFit t m → tallyRanged t m ≡ true
-unfolding tallyRanged
-tally-ranged t m f =
-    rw (
-      within-all m (t .counts) rowCount (f .counts),
-      within-all m (t .stamps) rowCount (f .stamps),
-      within-all m (t .occurrences) rowCount (f .occurrences),
-    )
+  abbrev eachBlock : Bool
+  eachBlock = eqb (length (t .totals)) blocks
+
+  abbrev stamped : Bool
+  stamped = withinTo bytes (t .stamps) rowCount
+
+  abbrev occurring : Bool
+  occurring = withinTo bytes (t .occurrences) rowCount
+
+  abbrev totalled : Bool
+  totalled = totalsTo (t .counts) (t .totals) blocks
+
+  abbrev addingUp : Bool
+  addingUp = eqb (sum (t .totals)) lines
+
+  tally-fit : tallyRanged t lines bytes ≡ true → TallyFit t lines bytes
+  unfolding tallyRanged
+  tally-fit e =
+      let e₅ = and-left (eachRow && eachBlock && stamped && occurring && totalled) addingUp e in
+      let e₄ = and-left (eachRow && eachBlock && stamped && occurring) totalled e₅ in
+      let e₃ = and-left (eachRow && eachBlock && stamped) occurring e₄ in
+      let e₂ = and-left (eachRow && eachBlock) stamped e₃ in
+      record {
+        eachRow = eqb-true _ _ (and-left eachRow eachBlock e₂);
+        eachBlock = eqb-true _ _ (and-right eachRow eachBlock e₂);
+        stamps = within-at bytes (t .stamps) rowCount (and-right (eachRow && eachBlock) stamped e₃);
+        occurrences = within-at bytes (t .occurrences) rowCount (and-right (eachRow && eachBlock && stamped) occurring e₄);
+        totals = λ x h.
+            eqb-true _ _
+            (all-at _ blocks (and-right (eachRow && eachBlock && stamped && occurring) totalled e₅) x h);
+        addUp = eqb-true _ _ (and-right (eachRow && eachBlock && stamped && occurring && totalled) addingUp e);
+      }
+
+  tally-ranged : TallyFit t lines bytes → tallyRanged t lines bytes ≡ true
+  unfolding tallyRanged
+  tally-ranged f =
+      rw (
+        eq-eqb (length (t .counts)) rowCount (f .eachRow),
+        eq-eqb (length (t .totals)) blocks (f .eachBlock),
+        within-all bytes (t .stamps) rowCount (f .stamps),
+        within-all bytes (t .occurrences) rowCount (f .occurrences),
+        all-below (λ x. eqb (blockCount x (t .counts)) (getD (t .totals) x 0)) blocks (λ x h. eq-eqb _ _ (f .totals x h)),
+        eq-eqb (sum (t .totals)) lines (f .addUp),
+      )
 
 -- The refusal that is kept.
 pub open-ranged : (bytes : ℕ) → bytes ≤ byteLimit → refusalRanged 0 0 0 bytes ≡ true
@@ -205,7 +261,7 @@ module _ (s : State) (e : rangedOf s ≡ true) where
   refusal = refusalRanged (s .rule) (s .field) (s .position) (s .hot .bytes)
 
   abbrev tally : Bool
-  tally = tallyRanged (s .tally) (s .hot .bytes)
+  tally = tallyRanged (s .tally) (s .hot .lines) (s .hot .bytes)
 
   first-two : (hot && refusal) ≡ true
   unfolding rangedOf
@@ -214,9 +270,9 @@ module _ (s : State) (e : rangedOf s ≡ true) where
   pub state-fit : HotFit (s .hot)
   state-fit = fit-of (s .hot) (and-left hot refusal first-two)
 
-  state-tally : TallyFit (s .tally) (s .hot .bytes)
+  pub state-tally : TallyFit (s .tally) (s .hot .lines) (s .hot .bytes)
   unfolding rangedOf
-  state-tally = tally-fit (s .tally) (s .hot .bytes) (and-right (hot && refusal) tally e)
+  state-tally = tally-fit (s .tally) (s .hot .lines) (s .hot .bytes) (and-right (hot && refusal) tally e)
 
   pub kept-refusal : (s .rule ≡ 0 → ⊥) → Names (s .rule) (s .field) (s .position) (s .hot .bytes)
   kept-refusal z = broken (s .rule) (s .field) (s .position) (s .hot .bytes) z (and-right hot refusal first-two)
@@ -239,7 +295,7 @@ module _ (s : State) (e : rangedOf s ≡ true) where
           tally = state-tally;
         }
 
-pub ranged-by : (s : State) → HotFit (s .hot) → TallyFit (s .tally) (s .hot .bytes)
+pub ranged-by : (s : State) → HotFit (s .hot) → TallyFit (s .tally) (s .hot .lines) (s .hot .bytes)
     → refusalRanged (s .rule) (s .field) (s .position) (s .hot .bytes) ≡ true → rangedOf s ≡ true
 unfolding rangedOf
-ranged-by s f t r = rw (hot-ranged (s .hot) f, r, tally-ranged (s .tally) (s .hot .bytes) t)
+ranged-by s f t r = rw (hot-ranged (s .hot) f, r, tally-ranged (s .tally) (s .hot .lines) (s .hot .bytes) t)

@@ -9,8 +9,9 @@ use lib.ListN.{length, getD, drop}
 use lib.Seq.{drop-cons, drop-length}
 use Rattle.rules.specs.Rules.{byteLimit}
 use Rattle.line.specs.Machine.{HotFit, mostBars, stepOf}
-use Rattle.sef.specs.Calls.{countsWith, stampsWith, occurrencesWith, tallyOf, tallyWith, openOf, stoppedOf, onStep, runOf}
-use Rattle.sef.specs.Ranges.{isRule, Held}
+use Rattle.sef.specs.Calls.{countsWith, stampsWith, occurrencesWith, totalsWith, tallyOf, tallyWith, openOf, stoppedOf}
+use Rattle.sef.specs.Calls.{onStep, runOf}
+use Rattle.sef.specs.Ranges.{isRule, Below, Held}
 use Rattle.sef.specs.Promises.{AllBytes}
 use Rattle.line.specs.declared.hot.Hot.{Hot}
 use Rattle.line.specs.declared.step.Step.{Step}
@@ -18,7 +19,8 @@ use Rattle.line.specs.declared.step.Step.the-variants.{Next, Broken}
 use Rattle.sef.specs.declared.state.Tally.{Tally}
 use Rattle.sef.specs.declared.answers.Checked.{Checked}
 use Rattle.sef.proofs.StepRanges.{Leads, goes, stops, step-leads}
-use Rattle.sef.proofs.TallyRanges.{tally-next}
+use Rattle.sef.proofs.StepLines.{lf-lines, other-lines}
+use Rattle.sef.proofs.TallyRanges.{tally-next, total-le, count-le}
 
 -- A step that goes on keeps all within the ranges.
 module _ (h n : Hot) (t : Tally) (b : ℕ) (d : Held h t) where
@@ -34,7 +36,11 @@ module _ (h n : Hot) (t : Tally) (b : ℕ) (d : Held h t) where
       record {
         fit = s .0;
         withinLimit = omega (arith, s .1, s .2);
-        tally = rw (s .1) (tally-next h (n .lines) b t (h .bytes) (d .tally) (omega (arith, s .0 .lines, s .1)));
+        tally =
+            rw (s .1)
+            (tally-next h (n .lines) b t (h .lines) (h .bytes) (d .tally) (omega (arith, s .0 .lines, s .1))
+            (λ p. lf-lines h (t .stamps) (t .occurrences) b n e (d .fit) p)
+            (λ p. other-lines h (t .stamps) (t .occurrences) b n e p));
       }
 
 -- The loop's invariant: the run from the start is the run from here over what is left of the piece.
@@ -61,17 +67,25 @@ module _ (h : Hot) (t : Tally) (p : List ℕ) (i : ℕ) where
   unfolding runOf
   run-end l g = let e : i ≡ length p = omega arith in rw (e, drop-length)
 
-pub going-next : {p : List ℕ} {h₀ : Hot} {t₀ : Tally} {h : Hot} {cs ss os : List ℕ} {i : ℕ}
-    → Going p h₀ t₀ h (tallyOf cs ss os) i → i < length p → getD p i 0 < 256 → (n : Hot) → stepOf h ss os (getD p i 0) ≡ Next n
-    → (cs′ ss′ os′ : List ℕ) → cs′ ≡ countsWith h (getD p i 0) cs → ss′ ≡ stampsWith h (n .lines) (getD p i 0) ss
-    → os′ ≡ occurrencesWith h (getD p i 0) ss os
-    → Going p h₀ t₀ n (tallyOf cs′ ss′ os′) (i + 1)
-going-next {p} {h₀} {t₀} {h} {cs} {ss} {os} {i} g l byte n e cs′ ss′ os′ ec es eo =
+pub going-next : {p : List ℕ} {h₀ : Hot} {t₀ : Tally} {h : Hot} {cs ss os bs : List ℕ} {i : ℕ}
+    → Going p h₀ t₀ h (tallyOf cs ss os bs) i → i < length p → getD p i 0 < 256 → (n : Hot) → stepOf h ss os (getD p i 0) ≡ Next n
+    → (cs′ ss′ os′ bs′ : List ℕ) → cs′ ≡ countsWith h (getD p i 0) cs → ss′ ≡ stampsWith h (n .lines) (getD p i 0) ss
+    → os′ ≡ occurrencesWith h (getD p i 0) ss os → bs′ ≡ totalsWith h (getD p i 0) bs
+    → Going p h₀ t₀ n (tallyOf cs′ ss′ os′ bs′) (i + 1)
+going-next {p} {h₀} {t₀} {h} {cs} {ss} {os} {bs} {i} g l byte n e cs′ ss′ os′ bs′ ec es eo eb =
     record {
-      runs = g .runs ∙ run-next h (tallyOf cs ss os) p i l n e ∙ rw (ec, es, eo);
+      runs = g .runs ∙ run-next h (tallyOf cs ss os bs) p i l n e ∙ rw (ec, es, eo, eb);
       within = omega arith;
-      held = rw (ec, es, eo) (held-next h n (tallyOf cs ss os) (getD p i 0) (g .held) byte e);
+      held = rw (ec, es, eo, eb) (held-next h n (tallyOf cs ss os bs) (getD p i 0) (g .held) byte e);
     }
+
+-- what is kept of each row and of each block is small
+module _ (h : Hot) (t : Tally) (d : Held h t) where
+  pub held-counts : Below (h .bytes) (t .counts)
+  held-counts = count-le t (h .lines) (h .bytes) (d .tally) (d .fit .lines)
+
+  pub held-totals : Below (h .bytes) (t .totals)
+  held-totals = total-le t (h .lines) (h .bytes) (d .tally) (d .fit .lines)
 
 -- What a piece comes to: nothing is refused so far, or a byte has broken a rule; all within the ranges.
 pub data Comes : Checked → Type 0 where

@@ -12,9 +12,9 @@ use borrow.Author.Tests.{ne-eqb}
 use Rattle.layout.specs.Rows.{row9999}
 use Rattle.rules.specs.Bytes.{lines, rows}
 use Rattle.rules.specs.Order.{last}
-use Rattle.rules.specs.Counts.{countsOfRows}
+use Rattle.rules.specs.Counts.{countsOfRows, totalsOfRows}
 use Rattle.rules.specs.Rules.{Fault, clear, breaks, fault}
-use Rattle.rules.specs.Verdict.{Verdict, stillOpen, refused, accepted, verdict, standing, counts, finishVerdict}
+use Rattle.rules.specs.Verdict.{Verdict, stillOpen, refused, accepted, verdict, standing, counts, totals, finishVerdict}
 use Rattle.rules.proofs.TestLaws.{split}
 use Rattle.rules.proofs.FaultLaws.{complete-last}
 use Rattle.rules.proofs.OccurrenceLaws.{stamps, occurrences}
@@ -29,12 +29,12 @@ use Rattle.sef.specs.declared.answers.Checked.{Checked}
 use Rattle.line.proofs.HotOf.{hotOf}
 use Rattle.line.proofs.Sim.{step-is}
 use Rattle.line.proofs.PositionSim.{position-told}
-use Rattle.sef.proofs.ArrayLaws.{counts-next, stamps-next, occurrences-next}
+use Rattle.sef.proofs.ArrayLaws.{counts-next, stamps-next, occurrences-next, totals-next}
 use Rattle.sef.proofs.NumberLaws.{fault-number}
 
 -- while no byte has broken a rule, and where one has broken rule n at the field f
 abbrev tallyAt : List ℕ → Tally
-tallyAt seen = tallyOf (countsOfRows (rows seen)) (stamps (rows seen)) (occurrences (rows seen))
+tallyAt seen = tallyOf (countsOfRows (rows seen)) (stamps (rows seen)) (occurrences (rows seen)) (totalsOfRows (rows seen))
 
 abbrev pub openAt : List ℕ → Checked
 openAt seen = openOf (hotOf seen) (tallyAt seen)
@@ -67,7 +67,15 @@ module _ (seen : List ℕ) where
 module _ (seen : List ℕ) (b : ℕ) (c : Clean seen) where
   run-clear : (rest : List ℕ) → fault seen b ≡ clear → runAt seen (b ∷ rest) ≡ runAt (b ∷ seen) rest
   unfolding runOf
-  run-clear rest e = rw (step-is seen b c, e, counts-next seen b c e, stamps-next seen b c e, occurrences-next seen b c e)
+  run-clear rest e =
+      rw (
+        step-is seen b c,
+        e,
+        counts-next seen b c e,
+        stamps-next seen b c e,
+        occurrences-next seen b c e,
+        totals-next seen b c e,
+      )
 
   run-broken : (rest : List ℕ) (n f p : ℕ) → fault seen b ≡ breaks n f p → runAt seen (b ∷ rest) ≡ stoppedAt seen n f
   unfolding runOf
@@ -208,6 +216,15 @@ module _ (seen : List ℕ) where
   counts-after = go (verdict seen)
     where
       go : (v : Verdict) → checkedBy v (standing seen) .state .tally .counts ≡ countsOfRows (rows (standing seen))
+      go (stillOpen l n) = unfold checkedBy openOf in refl
+      go (refused n line f p l k) = unfold checkedBy stoppedOf in refl
+      go (accepted l n) = unfold checkedBy openOf in refl
+
+  pub totals-after : checkedAfter seen .state .tally .totals ≡ totals seen
+  unfolding checkedAfter totals
+  totals-after = go (verdict seen)
+    where
+      go : (v : Verdict) → checkedBy v (standing seen) .state .tally .totals ≡ totalsOfRows (rows (standing seen))
       go (stillOpen l n) = unfold checkedBy openOf in refl
       go (refused n line f p l k) = unfold checkedBy stoppedOf in refl
       go (accepted l n) = unfold checkedBy openOf in refl

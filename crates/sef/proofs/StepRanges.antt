@@ -8,7 +8,7 @@ use native.Mathlib.Omega.{arith}
 use lib.Dec.{T, eqb, leb, ltb, leb→le, lit≤}
 use borrow.Author.Tests.{eqb-true, eqb-false, le-leb, leb-false, ltb-false}
 use Rattle.layout.specs.Pick.{pick}
-use Rattle.layout.specs.Rows.{rowCount, fields, mostFields, isClosing}
+use Rattle.layout.specs.Rows.{rowCount, none, fields, mostFields, isClosing}
 use Rattle.layout.specs.Kinds.{kind}
 use Rattle.layout.specs.Packed.{kindNumber, mostKind}
 use Rattle.rules.specs.Rules.{byteLimit}
@@ -16,14 +16,14 @@ use Rattle.rules.proofs.TestLaws.{split, pick-le}
 use Rattle.field.specs.Streaming.{FieldFit, cap, wrongAt, emptyFault, digitsFault, contentFault, numberFault, textFault, faultOf}
 use Rattle.field.specs.declared.bytes.Field.{Field}
 use Rattle.line.specs.Machine.{HotFit, judgedWith, mostBars, withoutData, grownOf, movedOf, endedOf, sinceOf, codeBarOf, saysOf}
-use Rattle.line.specs.Machine.{fieldBarOf, barOf}
+use Rattle.line.specs.Machine.{standsOf, roomOf, misplacedOf, wordRow, dueOf, fieldBarOf, barOf}
 use Rattle.line.specs.Machine.{controlOf, inFieldOf, pastOf, startOf, stepOf, positionOf}
 use Rattle.sef.specs.Ranges.{isRule, positionRanged}
 use Rattle.line.specs.declared.hot.Hot.{Hot}
 use Rattle.line.specs.declared.step.Step.{Step}
 use Rattle.line.specs.declared.step.Step.the-variants.{Next, Broken}
 use Rattle.layout.proofs.KindLaws.{kind-most}
-use Rattle.layout.proofs.RowLaws.{fields-most}
+use Rattle.layout.proofs.RowLaws.{fields-two, fields-most}
 use Rattle.field.proofs.LengthLaws.{one-longer, wrong-at-le, fit-after}
 use Rattle.field.proofs.WrongLaws.{wrong-at-some}
 use Rattle.line.proofs.RowLaws.{word-row-le}
@@ -80,6 +80,8 @@ judged-fit h f limit g length wrong value =
       says = f .says;
       bars = f .bars;
       row = f .row;
+      coded = f .coded;
+      someField = f .someField;
       fields = f .fields;
       kind = f .kind;
       length = length;
@@ -97,9 +99,9 @@ module _ (h : Hot) (f : HotFit h) (small : h .bytes < byteLimit) where
       let le = leb→le field 1 t in
       stops {rule = rule} {field = field} k (omega arith)
 
-  moved-leads : h .bars ≤ mostFields → (r fields kind says : ℕ) → r ≤ rowCount → fields ≤ mostFields → kind ≤ mostKind
-      → says ≤ withoutData → Leads h (Next (movedOf h r fields kind says))
-  moved-leads room r fields kind says row most small-kind said =
+  moved-leads : h .bars ≤ mostFields → (r fields kind says : ℕ) → r ≤ rowCount → (2 ≤ h .bars + 1 → r < rowCount)
+      → 1 ≤ fields → fields ≤ mostFields → kind ≤ mostKind → says ≤ withoutData → Leads h (Next (movedOf h r fields kind says))
+  moved-leads room r fields kind says row coded some most small-kind said =
       goes {n = movedOf h r fields kind says}
       (record {
         bytes = omega arith;
@@ -109,6 +111,8 @@ module _ (h : Hot) (f : HotFit h) (small : h .bytes < byteLimit) where
         says = said;
         bars = omega arith;
         row = row;
+        coded = coded;
+        someField = some;
         fields = most;
         kind = small-kind;
         length = omega arith;
@@ -139,6 +143,8 @@ module _ (h : Hot) (f : HotFit h) (small : h .bytes < byteLimit) where
         says = f .says;
         bars = omega arith;
         row = omega arith;
+        coded = λ two. absurd (omega arith);
+        someField = omega arith;
         fields = omega arith;
         kind = omega arith;
         length = omega arith;
@@ -155,36 +161,60 @@ module _ (h : Hot) (f : HotFit h) (small : h .bytes < byteLimit) where
   module _ (room : h .bars ≤ mostFields) where
     code-leads : (ss os : List ℕ) (r : ℕ) → r ≤ rowCount → Leads h (codeBarOf h ss os r)
     unfolding codeBarOf
-    code-leads ss os r le =
-        let next = moved-leads room r (fields r) (kindNumber (kind r 2)) 0 le (fields-most r le) (kind-most r 2) (omega arith) in
-        search (pick-leads, stops-at, next) depth 8
+    code-leads ss os r le = go (eqb r none) refl
+      where
+        go : (t : Bool) → eqb r none ≡ t
+            → Leads h (pick t (Broken 3 1)
+            (pick (standsOf (h .last) r)
+            (pick (misplacedOf (h .says) r) (Broken 5 1)
+            (pick (roomOf ss os r) (Next (movedOf h r (fields r) (kindNumber (kind r 2)) 0)) (Broken 6 1)))
+            (Broken 4 1)))
+        go true e = stops-at 3 1 refl tt
+        go false e =
+            let known : r < rowCount = let other = eqb-false r none e in omega arith in
+            let some = fields-two r known in
+            let next =
+            moved-leads room r (fields r) (kindNumber (kind r 2)) 0 le (λ two. known) (omega arith) (fields-most r le)
+            (kind-most r 2) (omega arith)
+            in
+            search (pick-leads, stops-at, next) depth 8
 
-    field-leads : (n : ℕ) → OfRule n → Leads h (fieldBarOf h n)
+    field-leads : 2 ≤ h .bars → (n : ℕ) → OfRule n → Leads h (fieldBarOf h n)
     unfolding fieldBarOf
-    field-leads n found = go (eqb n 0) refl
+    field-leads two n found = go (eqb n 0) refl
       where
         go : (t : Bool) → eqb n 0 ≡ t
             → Leads h (pick t (Next (movedOf h (h .row) (h .fields) (kindNumber (kind (h .row) (h .bars + 1))) (saysOf h)))
             (Broken n (h .bars)))
-        go true e = moved-leads room (h .row) (h .fields) _ _ (f .row) (f .fields) (kind-most (h .row) (h .bars + 1)) says-le
+        go true e =
+            moved-leads room (h .row) (h .fields) _ _ (f .row) (λ three. f .coded two) (f .someField) (f .fields)
+            (kind-most (h .row) (h .bars + 1)) says-le
         go false e = stops {rule = n} {field = h .bars} (rw e at found) (f .bars)
 
-    bar-leads : (ss os : List ℕ) → Leads h (barOf h ss os)
+    bar-leads : 1 ≤ h .bars → (ss os : List ℕ) → Leads h (barOf h ss os)
     unfolding barOf
-    bar-leads ss os = search (pick-leads, code-leads, word-row-le, field-leads, fault-rule) depth 8
+    bar-leads one ss os = go (eqb (h .bars) 1) refl
+      where
+        go : (t : Bool) → eqb (h .bars) 1 ≡ t
+            → Leads h (pick t (codeBarOf h ss os (wordRow h)) (fieldBarOf h (faultOf (h .kind) (h .field) (dueOf h))))
+        go true e = code-leads ss os (wordRow h) (word-row-le h)
+        go false e = let other = eqb-false (h .bars) 1 e in field-leads (omega arith) _ (fault-rule (h .kind) (h .field) (dueOf h))
 
     control-leads : (b : ℕ) → Leads h (controlOf h b)
     unfolding controlOf
     control-leads b = search (pick-leads, stops-here) depth 8
 
-    in-leads : (ss os : List ℕ) (b : ℕ) → b < 256 → Leads h (inFieldOf h ss os b)
+    in-leads : 1 ≤ h .bars → (ss os : List ℕ) (b : ℕ) → b < 256 → Leads h (inFieldOf h ss os b)
     unfolding inFieldOf
-    in-leads ss os b byte = search (pick-leads, bar-leads, control-leads, grown-leads) depth 8
+    in-leads one ss os b byte = search (pick-leads, bar-leads, control-leads, grown-leads) depth 8
 
-    start-leads : (b : ℕ) → Leads h (startOf h b)
+    start-leads : h .bars ≡ 0 → (b : ℕ) → Leads h (startOf h b)
     unfolding startOf
-    start-leads b =
-        let next = moved-leads room (h .row) (h .fields) 1 (h .says) (f .row) (f .fields) (omega arith) (f .says) in
+    start-leads z b =
+        let next =
+        moved-leads room (h .row) (h .fields) 1 (h .says) (f .row) (λ two. absurd (omega arith)) (f .someField) (f .fields)
+        (omega arith) (f .says)
+        in
         search (pick-leads, stops-at, next) depth 8
 
   past-leads : (b : ℕ) → b < 256 → Leads h (pastOf h b)
@@ -197,9 +227,12 @@ module _ (h : Hot) (f : HotFit h) (small : h .bytes < byteLimit) where
     where
       go : (t u : Bool) → eqb (h .bars) 0 ≡ t → ltb (h .fields) (h .bars) ≡ u
           → Leads h (pick t (startOf h b) (pick u (pastOf h b) (inFieldOf h ss os b)))
-      go true u e d = let z = eqb-true (h .bars) 0 e in start-leads (omega arith) b
+      go true u e d = let z = eqb-true (h .bars) 0 e in start-leads (omega arith) z b
       go false true e d = past-leads b byte
-      go false false e d = let l = ltb-false (h .fields) (h .bars) d in in-leads (omega (arith, f .fields)) ss os b byte
+      go false false e d =
+          let l = ltb-false (h .fields) (h .bars) d in
+          let some = eqb-false (h .bars) 0 e in
+          in-leads (omega (arith, f .fields)) (omega arith) ss os b byte
 
 pub step-leads : (h : Hot) → HotFit h → (ss os : List ℕ) (b : ℕ) → b < 256 → Leads h (stepOf h ss os b)
 unfolding stepOf

@@ -1,20 +1,25 @@
--- What is kept for each row stays within the ranges: a line sets the entries at its row, and other bytes set none.
-use mathlib.Core.Path.{_≡_, refl}
+-- What is kept for each row and each block stays within the ranges: a line sets the entries at its row and at its block, and other
+-- bytes set none.
+use mathlib.Core.Path.{_≡_, _∙_, refl, sym}
 use mathlib.Core.Bool.{Bool, true, false}
 use mathlib.Core.List.{List, [], _∷_}
-use Prim.Native.Nat.{ℕ, zero, suc, _+_, _≤_}
+use Prim.Native.Nat.{ℕ, zero, suc, _+_, _≤_, _<_}
 use native.Mathlib.Omega.{arith}
+use native.Mathlib.Numerals.{add-one}
 use native.Mathlib.Decide.{ℕ-discrete}
 use lib.Dec.{eqb, ltb}
-use lib.ListN.{getD, set}
-use lib.Seq.{getD-set-other}
-use borrow.Author.Tests.{ltb-true}
+use lib.ListN.{length, getD, set, length-set}
+use lib.Seq.{getD-set-same, getD-set-other}
+use borrow.Author.Tests.{lt-ltb, ltb-true, eqb-true, eq-eqb, ne-eqb}
 use Rattle.layout.specs.Pick.{pick}
-use Rattle.layout.specs.Rows.{rowCount, parent}
+use Rattle.layout.specs.Rows.{rowCount, parent, block, blocks}
+use Rattle.layout.proofs.StartLaws.{block-below}
 use Rattle.rules.specs.Bytes.{LF}
-use Rattle.rules.proofs.TestLaws.{pick-le}
+use Rattle.rules.specs.Totals.{sum, blockCount}
+use Rattle.rules.proofs.TestLaws.{split, pick-le}
+use Rattle.rules.proofs.CountLaws.{sum-set, sum-most, block-set, block-most}
 use Rattle.line.specs.Machine.{entryOf, usedOf}
-use Rattle.sef.specs.Calls.{setOf, countsWith, stampsWith, occurrencesWith, tallyWith}
+use Rattle.sef.specs.Calls.{setOf, countsWith, stampsWith, occurrencesWith, raisedOf, totalsWith, tallyWith}
 use Rattle.sef.specs.Ranges.{Below, TallyFit}
 use Rattle.line.specs.declared.hot.Hot.{Hot}
 use Rattle.sef.specs.declared.state.Tally.{Tally}
@@ -61,15 +66,95 @@ below-next m r v t xs b le = go t
     go true = below-set (m + 1) r v xs more le
     go false = more
 
-pub tally-next : (h : Hot) (n b : ℕ) (t : Tally) (m : ℕ) → TallyFit t m → n ≤ m + 1 → TallyFit (tallyWith h n b t) (m + 1)
-unfolding countsWith stampsWith occurrencesWith
-tally-next h n b t m f le =
-    record {
-      counts =
-          below-next m (h .row) _ (eqb b LF) (t .counts) (f .counts)
-          (omega (arith, entry-le m (h .row) (t .counts) (f .counts)));
-      stamps = below-next m (h .row) n (eqb b LF) (t .stamps) (f .stamps) le;
-      occurrences =
-          below-next m (h .row) _ (eqb b LF) (t .occurrences) (f .occurrences)
-          (omega (arith, used-le m (h .row) (t .stamps) (t .occurrences) (f .occurrences)));
-    }
+-- No count and no total is above the lines ended, and so above the bytes.
+module _ (t : Tally) (lines bytes : ℕ) (f : TallyFit t lines bytes) (le : lines ≤ bytes) where
+  pub total-le : Below bytes (t .totals)
+  total-le x h = omega (arith, sum-most (t .totals) x, f .addUp)
+
+  pub count-le : Below bytes (t .counts)
+  count-le r h =
+      let x = block r in
+      omega (
+        arith,
+        block-most x (t .counts) r refl,
+        f .totals x (block-below r h),
+        sum-most (t .totals) x,
+        f .addUp,
+      )
+
+-- One line more of row r: its count and its block's total are one more.
+module _ (counts totals : List ℕ) (r : ℕ) (known : r < rowCount) (rows : length counts ≡ rowCount) (all : length totals ≡ blocks) where
+  total-next : (x : ℕ) → blockCount x counts ≡ getD totals x 0
+      → blockCount x (set counts r (suc (getD counts r 0))) ≡ getD (set totals (block r) (suc (getD totals (block r) 0))) x 0
+  total-next x e = block-set x counts r (omega arith) ∙ go (ℕ-discrete (block r) x)
+    where
+      go : Dec (block r ≡ x)
+          → pick (eqb (block r) x) 1 0 + blockCount x counts ≡ getD (set totals (block r) (suc (getD totals (block r) 0))) x 0
+      go (yes p) =
+          let l = block-below r known in
+          let q : blockCount (block r) counts ≡ getD totals (block r) 0 = rw p e in
+          rw (eq-eqb (block r) x p, ← p, getD-set-same totals (block r) _ 0 (omega arith)) (omega arith)
+      go (no p) = rw (ne-eqb (block r) x p, getD-set-other totals (block r) x _ 0 (λ q. p (sym q))) (omega arith)
+
+module _ (h : Hot) (n b : ℕ) (t : Tally) (lines bytes : ℕ) (f : TallyFit t lines bytes) (le : n ≤ bytes + 1) where
+  stamps-next : Below (bytes + 1) (stampsWith h n b (t .stamps))
+  unfolding stampsWith
+  stamps-next = below-next bytes (h .row) n (eqb b LF) (t .stamps) (f .stamps) le
+
+  occurrences-next : Below (bytes + 1) (occurrencesWith h b (t .stamps) (t .occurrences))
+  unfolding occurrencesWith
+  occurrences-next =
+      below-next bytes (h .row) _ (eqb b LF) (t .occurrences) (f .occurrences)
+      (omega (arith, used-le bytes (h .row) (t .stamps) (t .occurrences) (f .occurrences)))
+
+  -- the line at hand ends
+  module _ (e : eqb b LF ≡ true) (known : h .row < rowCount) where
+    counts-ended : countsWith h b (t .counts) ≡ set (t .counts) (h .row) (suc (getD (t .counts) (h .row) 0))
+    unfolding countsWith setOf entryOf
+    counts-ended = rw (e, lt-ltb (h .row) rowCount known, add-one)
+
+    totals-ended : totalsWith h b (t .totals)
+        ≡ set (t .totals) (block (h .row)) (suc (getD (t .totals) (block (h .row)) 0))
+    unfolding totalsWith raisedOf
+    totals-ended = rw (e, lt-ltb (block (h .row)) blocks (block-below (h .row) known), add-one)
+
+    ended-fit : n ≡ lines + 1 → TallyFit (tallyWith h n b t) n (bytes + 1)
+    ended-fit more =
+        record {
+          eachRow = rw (counts-ended, length-set) (f .eachRow);
+          eachBlock = rw (totals-ended, length-set) (f .eachBlock);
+          stamps = stamps-next;
+          occurrences = occurrences-next;
+          totals = λ x l. rw (counts-ended, totals-ended)
+              (total-next (t .counts) (t .totals) (h .row) known (f .eachRow) (f .eachBlock) x (f .totals x l));
+          addUp =
+              let l = block-below (h .row) known in
+              let s = sum-set (t .totals) (block (h .row)) (omega (arith, f .eachBlock)) in
+              rw totals-ended (omega (arith, s, f .addUp));
+        }
+
+  -- every other byte
+  module _ (e : eqb b LF ≡ false) where
+    counts-stay : countsWith h b (t .counts) ≡ t .counts
+    unfolding countsWith
+    counts-stay = rw e
+
+    totals-stay : totalsWith h b (t .totals) ≡ t .totals
+    unfolding totalsWith
+    totals-stay = rw e
+
+    same-fit : n ≡ lines → TallyFit (tallyWith h n b t) n (bytes + 1)
+    same-fit same =
+        record {
+          eachRow = rw counts-stay (f .eachRow);
+          eachBlock = rw totals-stay (f .eachBlock);
+          stamps = stamps-next;
+          occurrences = occurrences-next;
+          totals = λ x l. rw (counts-stay, totals-stay) (f .totals x l);
+          addUp = rw totals-stay (f .addUp ∙ sym same);
+        }
+
+  pub tally-next : (b ≡ LF → (n ≡ lines + 1) × (h .row < rowCount)) → (eqb b LF ≡ false → n ≡ lines)
+      → TallyFit (tallyWith h n b t) n (bytes + 1)
+  tally-next ends same =
+      split (eqb b LF) (λ e. let p = ends (eqb-true b LF e) in ended-fit e (p .1) (p .0)) (λ e. same-fit e (same e))

@@ -3,9 +3,9 @@ use mathlib.Core.Bool.{Bool, true, false}
 use mathlib.Core.List.{List, [], _∷_, _++_}
 use Prim.Native.Nat.{ℕ, _+_}
 use lib.Dec.{eqb, ltb}
-use lib.ListN.{length, set, drop, replicate}
+use lib.ListN.{length, getD, set, drop, replicate}
 use Rattle.layout.specs.Pick.{pick}
-use Rattle.layout.specs.Rows.{rowCount, none, row9999}
+use Rattle.layout.specs.Rows.{rowCount, none, row9999, block, blocks}
 use Rattle.rules.specs.Bytes.{LF}
 use Rattle.field.specs.Streaming.{emptyField}
 use Rattle.line.specs.Machine.{codeKind, codeOnly, judgedWith, entryOf, usedOf, stepOf, positionOf}
@@ -40,12 +40,21 @@ unfoldable pub occurrencesWith : Hot → ℕ → List ℕ → List ℕ → List 
 occurrencesWith h b stamps occurrences =
     pick (eqb b LF) (setOf occurrences (h .row) (usedOf stamps occurrences (h .row) + 1)) occurrences
 
-abbrev pub tallyOf : List ℕ → List ℕ → List ℕ → Tally
-tallyOf counts stamps occurrences = record { counts = counts; stamps = stamps; occurrences = occurrences }
+-- What is kept for each block: the total of the line's block is one more; of no block none is.
+unfoldable pub raisedOf : List ℕ → ℕ → List ℕ
+raisedOf totals x = pick (ltb x blocks) (set totals x (getD totals x 0 + 1)) totals
+
+unfoldable pub totalsWith : Hot → ℕ → List ℕ → List ℕ
+totalsWith h b totals = pick (eqb b LF) (raisedOf totals (block (h .row))) totals
+
+abbrev pub tallyOf : List ℕ → List ℕ → List ℕ → List ℕ → Tally
+tallyOf counts stamps occurrences totals =
+    record { counts = counts; stamps = stamps; occurrences = occurrences; totals = totals }
 
 abbrev pub tallyWith : Hot → ℕ → ℕ → Tally → Tally
 tallyWith h n b t =
     tallyOf (countsWith h b (t .counts)) (stampsWith h n b (t .stamps)) (occurrencesWith h b (t .stamps) (t .occurrences))
+    (totalsWith h b (t .totals))
 
 -- A piece, byte by byte.
 abbrev pub stateOf : Hot → ℕ → ℕ → ℕ → Bool → Tally → State
@@ -96,7 +105,7 @@ fresh =
     0
     0
     false
-    (tallyOf (replicate rowCount 0) (replicate rowCount 0) (replicate rowCount 0))
+    (tallyOf (replicate rowCount 0) (replicate rowCount 0) (replicate rowCount 0) (replicate blocks 0))
 
 -- the refusal that a state keeps
 unfoldable pub keptOf : State → Numbers

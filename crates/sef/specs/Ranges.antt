@@ -1,28 +1,39 @@
 -- Every stored number within its range (docs/STATE.md): what refusal 19 asks.
+use mathlib.Core.Path.{_≡_}
 use mathlib.Core.Bool.{Bool, true, _&&_, _||_}
 use mathlib.Core.List.{List}
 use Prim.Native.Nat.{ℕ, zero, suc, _+_, _≤_, _<_}
-use lib.Dec.{eqb, leb}
-use lib.ListN.{getD}
+use lib.Dec.{eqb, leb, ltb}
+use lib.ListN.{length, getD}
 use Rattle.layout.specs.Pick.{pick}
-use Rattle.layout.specs.Rows.{rowCount, mostFields}
+use Rattle.layout.specs.Rows.{rowCount, mostFields, blocks}
 use Rattle.layout.specs.Packed.{mostKind}
 use Rattle.rules.specs.Rules.{byteLimit}
+use Rattle.rules.specs.Totals.{sum, blockCount}
 use Rattle.field.specs.Streaming.{cap}
 use Rattle.line.specs.Machine.{HotFit, mostBars, withoutData}
 use Rattle.line.specs.declared.hot.Hot.{Hot}
 use Rattle.sef.specs.declared.state.State.{State}
 use Rattle.sef.specs.declared.state.Tally.{Tally}
 
--- the first n entries are at most m
-unfoldable pub withinTo : ℕ → List ℕ → ℕ → Bool
-withinTo m xs zero = true
-withinTo m xs (suc k) = leb (getD xs k 0) m && withinTo m xs k
+-- each number below n passes the test
+unfoldable pub allBelow : ℕ → (ℕ → Bool) → Bool
+allBelow zero test = true
+allBelow (suc k) test = test k && allBelow k test
 
--- the line at hand
+-- the first n entries are at most m
+abbrev pub withinTo : ℕ → List ℕ → ℕ → Bool
+withinTo m xs n = allBelow n (λ k. leb (getD xs k 0) m)
+
+-- 02, request g: "19 also covers a total that differs from its rows' sum". Those of the first n blocks are the sums.
+abbrev pub totalsTo : List ℕ → List ℕ → ℕ → Bool
+totalsTo counts totals n = allBelow n (λ x. eqb (blockCount x counts) (getD totals x 0))
+
+-- the line at hand: from its second bar on its row is known
 unfoldable pub lineRanged : Hot → Bool
 lineRanged h =
-    leb (h .bars) mostBars && leb (h .row) rowCount && leb (h .fields) mostFields && leb (h .kind) mostKind
+    leb (h .bars) mostBars && leb (h .row) rowCount && (leb (h .bars) 1 || ltb (h .row) rowCount) && leb 1 (h .fields)
+    && leb (h .fields) mostFields && leb (h .kind) mostKind
     && leb (h .field .length) (h .bytes) && leb (h .field .wrong) (h .field .length) && leb (h .field .value) cap
 
 -- the byte that breaks rule 16 is judged too
@@ -46,25 +57,32 @@ refusalRanged rule field position bytes =
     pick (eqb rule 0) (eqb field 0 && eqb position 0 && leb bytes byteLimit)
     (isRule rule && leb field mostBars && positionRanged rule position bytes)
 
--- what is kept for each row
-unfoldable pub tallyRanged : Tally → ℕ → Bool
-tallyRanged t m = withinTo m (t .counts) rowCount && withinTo m (t .stamps) rowCount && withinTo m (t .occurrences) rowCount
+-- what is kept for each row and each block: a count for each row and a total for each block, as the arrays' types say; "and totals
+-- whose sum differs from a stored number of lines ended". (So no count or total is above the lines ended.)
+unfoldable pub tallyRanged : Tally → ℕ → ℕ → Bool
+tallyRanged t lines bytes =
+    eqb (length (t .counts)) rowCount && eqb (length (t .totals)) blocks
+    && withinTo bytes (t .stamps) rowCount && withinTo bytes (t .occurrences) rowCount
+    && totalsTo (t .counts) (t .totals) blocks && eqb (sum (t .totals)) lines
 
 unfoldable pub rangedOf : State → Bool
 rangedOf s =
     hotRanged (s .hot) && refusalRanged (s .rule) (s .field) (s .position) (s .hot .bytes)
-    && tallyRanged (s .tally) (s .hot .bytes)
+    && tallyRanged (s .tally) (s .hot .lines) (s .hot .bytes)
 
 -- what the loop over a piece keeps
 abbrev pub Below : ℕ → List ℕ → Type 0
 Below m xs = (k : ℕ) → k < rowCount → getD xs k 0 ≤ m
 
-pub record TallyFit (t : Tally) (m : ℕ) : Type 0 where
-  pub counts : Below m (t .counts)
-  pub stamps : Below m (t .stamps)
-  pub occurrences : Below m (t .occurrences)
+pub record TallyFit (t : Tally) (lines bytes : ℕ) : Type 0 where
+  pub eachRow : length (t .counts) ≡ rowCount
+  pub eachBlock : length (t .totals) ≡ blocks
+  pub stamps : Below bytes (t .stamps)
+  pub occurrences : Below bytes (t .occurrences)
+  pub totals : (x : ℕ) → x < blocks → blockCount x (t .counts) ≡ getD (t .totals) x 0
+  pub addUp : sum (t .totals) ≡ lines
 
 pub record Held (h : Hot) (t : Tally) : Type 0 where
   pub fit : HotFit h
   pub withinLimit : h .bytes ≤ byteLimit
-  pub tally : TallyFit t (h .bytes)
+  pub tally : TallyFit t (h .lines) (h .bytes)

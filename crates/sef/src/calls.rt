@@ -15,6 +15,7 @@ use crate::ranges::ranged;
 use crate::run::run;
 use crate::state::State;
 use crate::state::Tally;
+use layout::blocks::BLOCKS;
 use layout::rows::ROWS;
 use line::hot::CODE_KIND;
 use line::hot::CODE_ONLY;
@@ -49,6 +50,7 @@ pub fn start() -> State
             counts: [0; ROWS],
             stamps: [0; ROWS],
             occurrences: [0; ROWS],
+            totals: [0; BLOCKS],
         },
     }
 }

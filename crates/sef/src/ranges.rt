@@ -1,13 +1,17 @@
 // Every stored number within its range (docs/STATE.md): what refusal 19 asks.
 ghost use mathlib.Core.Path.{_≡_};
-ghost use Rattle.layout.specs.Rows.{rowCount};
-ghost use Rattle.sef.specs.Ranges.{withinTo, lineRanged, hotRanged, isRule, positionRanged};
+ghost use lib.Dec.{eqb};
+ghost use lib.ListN.{length};
+ghost use Rattle.layout.specs.Rows.{rowCount, blocks};
+ghost use Rattle.rules.specs.Totals.{sum};
+ghost use Rattle.sef.specs.Ranges.{withinTo, totalsTo, lineRanged, hotRanged, isRule, positionRanged};
 ghost use Rattle.sef.specs.Ranges.{refusalRanged, tallyRanged, rangedOf};
 use crate::state::State;
 use crate::state::Tally;
 use field::bytes::CAP;
 use field::fault::WRONG_CHARACTERS;
 use field::fault::WRONG_CHECK_DIGIT;
+use layout::blocks::BLOCKS;
 use layout::kinds::KIND_MOST;
 use layout::rows::FIELDS_MOST;
 use layout::rows::ROWS;
@@ -37,6 +41,41 @@ fn within(array: &[u64; ROWS], m: u64) -> bool
     true
 }
 
+// Whether the numbers add up to the total. Each is taken from it, so that no sum can get too large.
+fn adds_up(numbers: &[u64], total: u64) -> bool
+    ensures { λ t. ⌜ t ≡ eqb (sum (now (numbers .entry))) total ⌝ }
+{
+    let mut left = total;
+    let mut i = 0;
+    while i < numbers.len() {
+        let n = numbers[i];
+        if left < n {
+            return false;
+        }
+        left -= n;
+        i += 1;
+    }
+    left == 0
+}
+
+// Each total is the sum of its block's counts.
+fn totals_ranged(counts: &[u64], totals: &[u64; BLOCKS]) -> bool
+    requires { ⌜ length (now counts) ≡ rowCount ⌝ }
+    ensures { λ t. ⌜ t ≡ totalsTo (now (counts .entry)) (now (totals .entry)) blocks ⌝ }
+{
+    let starts = layout::blocks::starts();
+    let mut x = BLOCKS;
+    while 0 < x {
+        let end = starts[x];
+        x -= 1;
+        let start = starts[x];
+        if !adds_up(&counts[start..end], totals[x]) {
+            return false;
+        }
+    }
+    true
+}
+
 // The line at hand. (Tests are joined by `&`: none need be spared, once in a piece, and so there is no branch.)
 fn line_ranged(h: Hot) -> bool
     ensures { λ t. ⌜ t ≡ lineRanged h ⌝ }
@@ -44,6 +83,8 @@ fn line_ranged(h: Hot) -> bool
     let f = h.field;
     (h.bars <= BARS_MOST)
         & (h.row <= ROWS)
+        & ((h.bars <= 1) | (h.row < ROWS))
+        & (1 <= h.fields)
         & (h.fields <= FIELDS_MOST)
         & (h.kind <= KIND_MOST)
         & (f.length <= h.bytes)
@@ -89,14 +130,18 @@ fn refusal_ranged(rule: u64, field: u64, position: u64, bytes: u64) -> bool
     is_rule(rule) & (field <= BARS_MOST) & position_ranged(rule, position, bytes)
 }
 
-// What is kept for each row.
-fn tally_ranged(tally: Tally, bytes: u64) -> bool
-    ensures { λ t. ⌜ t ≡ tallyRanged tally bytes ⌝ }
+// What is kept for each row and each block.
+fn tally_ranged(tally: Tally, lines: u64, bytes: u64) -> bool
+    ensures { λ t. ⌜ t ≡ tallyRanged tally lines bytes ⌝ }
 {
     let counts = tally.counts;
     let stamps = tally.stamps;
     let occurrences = tally.occurrences;
-    within(&counts, bytes) & within(&stamps, bytes) & within(&occurrences, bytes)
+    let totals = tally.totals;
+    within(&stamps, bytes)
+        & within(&occurrences, bytes)
+        & totals_ranged(&counts, &totals)
+        & adds_up(&totals, lines)
 }
 
 pub fn ranged(s: State) -> bool
@@ -106,5 +151,5 @@ pub fn ranged(s: State) -> bool
     let tally = s.tally;
     hot_ranged(h)
         & refusal_ranged(s.rule, s.field, s.position, h.bytes)
-        & tally_ranged(tally, h.bytes)
+        & tally_ranged(tally, h.lines, h.bytes)
 }

@@ -1,15 +1,17 @@
 // The bytes of a piece, one after the other.
 ghost use mathlib.Core.Path.{_≡_};
-ghost use Rattle.layout.specs.Packed.{parentColumn};
-ghost use Rattle.line.specs.Machine.{Tables};
-ghost use Rattle.sef.specs.Calls.{setOf, countsWith, stampsWith, occurrencesWith, tallyOf, runOf};
-ghost use Rattle.sef.specs.Ranges.{Held};
+ghost use Rattle.layout.specs.Packed.{rowNumbers, parentColumn};
+ghost use Rattle.line.specs.Machine.{HotFit, Tables};
+ghost use Rattle.sef.specs.Calls.{setOf, countsWith, stampsWith, occurrencesWith, totalsWith, tallyOf, runOf};
+ghost use Rattle.sef.specs.Ranges.{Below, Held};
 use crate::answers::Checked;
 use crate::outcome::ended_by;
 use crate::outcome::opened;
 use crate::state::Tally;
+use layout::blocks::BLOCKS;
 use layout::codes::SLOTS;
 use layout::kinds::FIELDS;
+use layout::roles::block_at;
 use layout::rows::ENTRIES;
 use layout::rows::ROWS;
 use line::hot::Hot;
@@ -39,7 +41,8 @@ fn noted(
     occurrences: &mut [u64; ROWS],
 )
     requires { ⌜ now parents ≡ parentColumn ⌝ }
-    requires { ⌜ Held h (tallyOf (now counts) (now stamps) (now occurrences)) ⌝ }
+    requires { ⌜ HotFit h ⌝ }
+    requires { ⌜ Below (h .bytes) (now counts) × Below (h .bytes) (now occurrences) ⌝ }
     ensures { λ _. ⌜ now (counts .exit) ≡ countsWith h b (now (counts .entry)) ⌝ }
     ensures { λ _. ⌜ now (stamps .exit) ≡ stampsWith h n b (now (stamps .entry)) ⌝ }
     ensures { λ _. ⌜ now (occurrences .exit) ≡ occurrencesWith h b (now (stamps .entry)) (now (occurrences .entry)) ⌝ }
@@ -54,13 +57,34 @@ fn noted(
     }
 }
 
-fn tally_of(counts: [u64; ROWS], stamps: [u64; ROWS], occurrences: [u64; ROWS]) -> Tally
-    ensures { λ r. ⌜ r ≡ tallyOf counts stamps occurrences ⌝ }
+// The totals after a byte that was accepted: LF ends the line at hand, and the total of its block is one more.
+fn totalled(rows: &[[u64; 4]; ENTRIES], h: Hot, b: u8, totals: &mut [u64; BLOCKS])
+    requires { ⌜ HotFit h ⌝ }
+    requires { ⌜ (now rows ≡ rowNumbers) × Below (h .bytes) (now totals) ⌝ }
+    ensures { λ _. ⌜ now (totals .exit) ≡ totalsWith h b (now (totals .entry)) ⌝ }
+{
+    if b != LF {
+        return;
+    }
+    let x = block_at(rows, h.row) as usize;
+    if x < BLOCKS {
+        totals[x] += 1;
+    }
+}
+
+fn tally_of(
+    counts: [u64; ROWS],
+    stamps: [u64; ROWS],
+    occurrences: [u64; ROWS],
+    totals: [u64; BLOCKS],
+) -> Tally
+    ensures { λ r. ⌜ r ≡ tallyOf counts stamps occurrences totals ⌝ }
 {
     Tally {
         counts,
         stamps,
         occurrences,
+        totals,
     }
 }
 
@@ -83,6 +107,7 @@ fn judge_all(
     let mut counts = tally.counts;
     let mut stamps = tally.stamps;
     let mut occurrences = tally.occurrences;
+    let mut totals = tally.totals;
     let mut i = 0;
     while i < piece.len() {
         let b = piece[i];
@@ -98,8 +123,9 @@ fn judge_all(
             b,
         );
         let Step::Next(n) = t else {
-            return ended_by(t, h, tally_of(counts, stamps, occurrences));
+            return ended_by(t, h, tally_of(counts, stamps, occurrences, totals));
         };
+        totalled(rows, h, b, &mut totals);
         noted(
             parents,
             h,
@@ -112,7 +138,7 @@ fn judge_all(
         h = n;
         i += 1;
     }
-    opened(h, tally_of(counts, stamps, occurrences))
+    opened(h, tally_of(counts, stamps, occurrences, totals))
 }
 
 // The same, with the tables: read once a piece, so that a look-up is a plain load.

@@ -1,12 +1,15 @@
 // What is kept between pieces.
+use layout::blocks::BLOCKS;
 use layout::rows::ROWS;
 use line::hot::Hot;
 
-// For each row: its lines ended, the number of its last line, and how many stood under one parent line then.
+// For each row: its lines ended, the number of its last line, and how many stood under one parent line then. For each block, in the
+// order of blocks: its lines ended.
 pub struct Tally {
     pub counts: [u64; ROWS],
     pub stamps: [u64; ROWS],
     pub occurrences: [u64; ROWS],
+    pub totals: [u64; BLOCKS],
 }
 
 pub struct State {

@@ -1,4 +1,7 @@
-// Standard input to seven lines: the checker's final answer. Everything that matters is in `sef`.
+// Standard input to seven lines: the checker's final answer; with --blocks a line for each block follows, with its lines ended.
+// Everything that matters is in `sef`.
+use layout::blocks::BLOCKS;
+use libc::STDERR_FILENO;
 use libc::STDIN_FILENO;
 use libc::STDOUT_FILENO;
 use sef::answers::Numbers;
@@ -34,14 +37,34 @@ fn after(s: State, piece: &[u8]) -> State {
     next
 }
 
-fn finish(s: State) {
+fn print_block(letter: u8, lines: u64) {
+    let name = [letter];
+    io::write_all(STDOUT_FILENO, b"block ");
+    io::write_all(STDOUT_FILENO, &name);
+    line(b"=", lines);
+}
+
+fn print_blocks(totals: &[u64; BLOCKS]) {
+    let letters = layout::blocks::letters();
+    for x in 0..BLOCKS {
+        print_block(letters[x], totals[x]);
+    }
+}
+
+fn finish(s: State, blocks: bool) {
     let finished = sef::calls::finish(s);
     let answer = finished.answer;
     print(sef::answers::final_numbers(answer));
+    if blocks {
+        let state = finished.state;
+        let tally = state.tally;
+        let totals = tally.totals;
+        print_blocks(&totals);
+    }
 }
 
 // A proved loop has to end, and nothing says that the input does: so the loop counts down, from a number that no run uses up.
-fn main() {
+fn check_input(blocks: bool) {
     let mut state = sef::calls::start();
     let mut block = io::large_buffer();
     let mut turns = u64::MAX;
@@ -52,11 +75,34 @@ fn main() {
             return;
         }
         if got == 0 {
-            finish(state);
+            finish(state, blocks);
             return;
         }
         let n = io::count(got, &block);
         state = after(state, &block[..n]);
         turns -= 1;
     }
+}
+
+const OPTION: usize = 8;
+
+fn is_blocks(word: &[u8; OPTION]) -> bool {
+    let blocks = b"--blocks";
+    for i in 0..OPTION {
+        if word[i] != blocks[i] {
+            return false;
+        }
+    }
+    true
+}
+
+fn main() {
+    let mut word = [0u8; OPTION];
+    let length = os::arg(1, &mut word);
+    let blocks = length == OPTION && is_blocks(&word);
+    if 1 < os::arg_count() && !blocks {
+        io::write_all(STDERR_FILENO, b"usage: sefcheck [--blocks]\n");
+        return;
+    }
+    check_input(blocks);
 }

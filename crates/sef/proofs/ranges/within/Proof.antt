@@ -1,10 +1,11 @@
 use Prim.Native.Nat.{_≤_}
 use borrow.Author.Needs.{needs}
-use mathlib.Core.Path.{_≡_, refl, _∙_, sym, ap}
+use mathlib.Core.Path.{_≡_, refl, _∙_, sym}
 use native.Mathlib.Omega.{arith}
+use borrow.Author.Tests.{le-leb, lt-leb}
 use Rattle.layout.specs.Rows.{rowCount}
 use Rattle.sef.specs.Ranges.{withinTo}
-use Rattle.sef.proofs.RangeLaws.{within-on, within-off}
+use Rattle.sef.proofs.RangeLaws.{all-on, all-off, all-end}
 use Rattle.sef.proofs.ranges.within.Statement.{statement}
 use Rattle.sef.proofs.ranges.within.Tie as tie
 
@@ -29,7 +30,7 @@ element-copy-out-if1 c = search needs
 returns : tie.Need-returns Inv-loop μ-loop
 returns c =
     let at = c .before .before .before .loop in
-    sym (at .inv .1 ∙ within-off _ _ (at .i) (omega arith) (c .if1 .taken))
+    sym (at .inv .1 ∙ all-off _ (at .i) (omega arith) (lt-leb _ _ (c .if1 .taken)))
 
 loop-less : tie.Need-loop-less Inv-loop μ-loop
 loop-less c = search needs
@@ -37,12 +38,10 @@ loop-less c = search needs
 loop-again : tie.Need-loop-again Inv-loop μ-loop
 loop-again c =
     let at = c .before .before .before .loop in
-    (omega arith, at .inv .1 ∙ within-on _ _ (at .i) (omega arith) (c .if1 .left))
+    (omega arith, at .inv .1 ∙ all-on _ (at .i) (omega arith) (le-leb _ _ (c .if1 .left)))
 
 returns-2 : tie.Need-returns-2 Inv-loop μ-loop
-returns-2 c =
-    let e : c .before .loop .i ≡ 0 = omega arith in
-    sym (c .before .loop .inv .1 ∙ ap (withinTo _ _) e ∙ unfold withinTo in refl)
+returns-2 c = sym (c .before .loop .inv .1 ∙ all-end _ (c .before .loop .i) (omega arith))
 
 pub within-spec : {M : Type 1} → statement M
 within-spec =

@@ -4,16 +4,16 @@ use mathlib.Core.Path.{_∙_, sym}
 use native.Mathlib.Omega.{arith}
 use lib.ListN.{length}
 use Rattle.sef.specs.Calls.{tallyOf}
-use Rattle.sef.proofs.RunLaws.{Going, run-stop, run-end, going-next}
+use Rattle.sef.proofs.RunLaws.{Going, run-stop, run-end, going-next, held-counts, held-totals}
 use Rattle.sef.proofs.run.judge_all.Statement.{statement}
 use Rattle.sef.proofs.run.judge_all.Tie as tie
 
 abbrev Inv-loop : tie.InvT-loop
-Inv-loop rows parents kinds starts slots piece h₀ counts₀ stamps₀ occurrences₀ i₀ h counts stamps occurrences i =
-    Going piece h₀ (tallyOf counts₀ stamps₀ occurrences₀) h (tallyOf counts stamps occurrences) i
+Inv-loop rows parents kinds starts slots piece h₀ counts₀ stamps₀ occurrences₀ totals₀ i₀ h counts stamps occurrences totals i =
+    Going piece h₀ (tallyOf counts₀ stamps₀ occurrences₀ totals₀) h (tallyOf counts stamps occurrences totals) i
 
 abbrev μ-loop : tie.MeasureT-loop
-μ-loop rows parents kinds starts slots piece h₀ counts₀ stamps₀ occurrences₀ i₀ h counts stamps occurrences i =
+μ-loop rows parents kinds starts slots piece h₀ counts₀ stamps₀ occurrences₀ totals₀ i₀ h counts stamps occurrences totals i =
     length piece - i
 
 loop-holds : tie.Need-loop-holds Inv-loop μ-loop
@@ -47,27 +47,42 @@ returns c =
     (rw (c .before .tally-of .ensures) at (c .ended-by .ensures))
     ∙ sym (at .inv .runs ∙ stops _ _ _ (judged .judge .ensures) (told .enum-told .given .1))
 
+totalled-requires : tie.Need-totalled-requires Inv-loop μ-loop
+totalled-requires c κs =
+    let judged = c .before .before .before .before in
+    let at = judged .before .before .before .before .before in
+    let start = at .before .before .before .before .before .before in
+    let held = at .loop .inv .held in
+    (held .fit, (start .pre .0 .rows, held-totals _ _ held))
+
 noted-requires : tie.Need-noted-requires Inv-loop μ-loop
-noted-requires c κs = search needs
+noted-requires c κs =
+    let judged = c .before .before .before .before .before .before .before .before in
+    let at = judged .before .before .before .before .before in
+    let start = at .before .before .before .before .before .before in
+    let held = at .loop .inv .held in
+    (start .pre .0 .parents, (held .fit, (held-counts _ _ held, held .tally .occurrences)))
 
 add-i : tie.Need-add-i Inv-loop μ-loop
 add-i c =
-    let turn = c .before .before .before .before .before .before .before .before .before .before .before in
-    omega (arith, turn .loop-test .taken, turn .before .before .before .before .before .before .good)
+    let judged = c .before .before .before .before .before .before .before .before .before in
+    let turn = judged .before .before .before .before in
+    omega (arith, turn .loop-test .taken, turn .before .before .before .before .before .before .before .good)
 
 loop-less : tie.Need-loop-less Inv-loop μ-loop
 loop-less c = search needs
 
 loop-again : tie.Need-loop-again Inv-loop μ-loop
 loop-again c =
-    let told = c .before .before .before .before .before in
+    let totalled = c .before .before .before .before in
+    let told = totalled .before .before .before in
     let judged = told .before .before in
     let turn = judged .before .before .before .before in
     let at = turn .before .loop in
-    let byte = turn .before .before .before .before .before .shared-slice-known .given (at .i) in
+    let byte = turn .before .before .before .before .before .before .shared-slice-known .given (at .i) in
     let goes = sym (judged .judge .ensures) ∙ told .t .given .1 in
     let e = c .noted .ensures in
-    going-next (at .inv) (turn .loop-test .taken) (byte .fits) _ goes _ _ _ (e .0) (e .1 .0) (e .1 .1)
+    going-next (at .inv) (turn .loop-test .taken) (byte .fits) _ goes _ _ _ _ (e .0) (e .1 .0) (e .1 .1) (totalled .totalled .ensures)
 
 tally-of-requires-2 : tie.Need-tally-of-requires-2 Inv-loop μ-loop
 tally-of-requires-2 c κs = search needs
@@ -95,6 +110,7 @@ judge-all-spec =
     tally-of-requires
     ended-by-requires
     returns
+    totalled-requires
     noted-requires
     add-i
     loop-less

@@ -16,7 +16,7 @@ entry-requires c κs = search needs
 add-put : tie.Need-add-put
 add-put c =
     let start = c .before .before .before .before .before .before .before in
-    omega (arith, entry-le _ (start .args .h .row) (start .args .counts .now) (start .pre .1 .tally .counts))
+    omega (arith, entry-le _ (start .args .h .row) (start .args .counts .now) (start .pre .1 .1 .0))
 
 put-requires : tie.Need-put-requires
 put-requires c κs = search needs
@@ -28,7 +28,7 @@ add-put-2 : tie.Need-add-put-2
 add-put-2 c =
     let start = c .before .before .before .before .before .before .before .before .before .before .before in
     let args = start .args in
-    omega (arith, used-le _ (args .h .row) (args .stamps .now) (args .occurrences .now) (start .pre .1 .tally .occurrences))
+    omega (arith, used-le _ (args .h .row) (args .stamps .now) (args .occurrences .now) (start .pre .1 .1 .1))
 
 put-requires-3 : tie.Need-put-requires-3
 put-requires-3 c κs = search needs

@@ -1,14 +1,15 @@
-use Rattle.layout.specs.Rows.{rowCount}
-use Prim.Native.Nat.{_≤_, _-_}
 use borrow.Author.Needs.{needs}
-use Rattle.pieces.proofs.print_counts.Statement.{statement}
-use Rattle.pieces.proofs.print_counts.Tie as tie
+use Prim.Native.Nat.{_≤_, _-_}
+use mathlib.Core.Path.{_≡_}
+use lib.ListN.{length}
+use Rattle.pieces.proofs.print_all.Statement.{statement}
+use Rattle.pieces.proofs.print_all.Tie as tie
 
 abbrev Inv-loop : tie.InvT-loop
-Inv-loop counts i₀ i = i ≤ rowCount
+Inv-loop numbers i₀ i-end i = (i ≤ i-end) × (i-end ≡ length numbers)
 
 abbrev μ-loop : tie.MeasureT-loop
-μ-loop counts i₀ i = rowCount - i
+μ-loop numbers i₀ i-end i = i-end - i
 
 loop-holds : tie.Need-loop-holds Inv-loop μ-loop
 loop-holds c = search needs
@@ -16,8 +17,8 @@ loop-holds c = search needs
 mul-number : tie.Need-mul-number Inv-loop μ-loop
 mul-number c = search needs
 
-element-copy-out-number : tie.Need-element-copy-out-number Inv-loop μ-loop
-element-copy-out-number c = search needs
+shared-slice-read-number : tie.Need-shared-slice-read-number Inv-loop μ-loop
+shared-slice-read-number c = search needs
 
 number-requires : tie.Need-number-requires Inv-loop μ-loop
 number-requires c κs = search needs
@@ -34,15 +35,15 @@ loop-again c = search needs
 returns : tie.Need-returns Inv-loop μ-loop
 returns c = search needs
 
-pub print-counts-spec : {M : Type 1} → statement M
-print-counts-spec =
+pub print-all-spec : {M : Type 1} → statement M
+print-all-spec =
     tie.close
     (tie.spec
     Inv-loop
     μ-loop
     loop-holds
     mul-number
-    element-copy-out-number
+    shared-slice-read-number
     number-requires
     add-i
     loop-less

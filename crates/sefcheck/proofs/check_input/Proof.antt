@@ -1,14 +1,14 @@
+use borrow.Author.Needs.{needs}
 use mathlib.Core.Path.{_≡_}
 use lib.ListN.{length}
-use borrow.Author.Needs.{needs}
-use Rattle.sefcheck.proofs.main.Statement.{statement}
-use Rattle.sefcheck.proofs.main.Tie as tie
+use Rattle.sefcheck.proofs.check_input.Statement.{statement}
+use Rattle.sefcheck.proofs.check_input.Tie as tie
 
 abbrev Inv-loop : tie.InvT-loop
-Inv-loop state₀ block₀ turns₀ t6 state block turns = 65536 ≡ length block
+Inv-loop blocks state₀ block₀ turns₀ t7 state block turns = 65536 ≡ length block
 
 abbrev μ-loop : tie.MeasureT-loop
-μ-loop state₀ block₀ turns₀ t6 state block turns = turns
+μ-loop blocks state₀ block₀ turns₀ t7 state block turns = turns
 
 start-requires : tie.Need-start-requires Inv-loop μ-loop
 start-requires c κs = search needs
@@ -67,8 +67,8 @@ loop-again c = search needs
 returns-3 : tie.Need-returns-3 Inv-loop μ-loop
 returns-3 c = search needs
 
-pub main-spec : {M : Type 1} → statement M
-main-spec =
+pub check-input-spec : {M : Type 1} → statement M
+check-input-spec =
     tie.close
     (tie.spec
     Inv-loop
