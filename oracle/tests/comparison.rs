@@ -133,7 +133,7 @@ fn faults_are_caught_with_other_seeds() {
 }
 
 #[test]
-#[ignore = "takes a minute"]
+#[ignore = "takes two minutes and more"]
 fn faults_that_long_runs_show() {
     SEEN_IN_LONG_RUNS.iter().for_each(|fault| assert_caught(fault, &[]));
 }
