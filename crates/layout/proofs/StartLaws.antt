@@ -1,8 +1,8 @@
 -- Where the rows of each block begin: a row stands in block x exactly from x's start to the next one's.
 use mathlib.Core.Path.{_≡_}
-use mathlib.Core.Bool.{Bool, true, false, not, _&&_}
+use mathlib.Core.Bool.{Bool, true, false, not}
 use Prim.Native.Nat.{ℕ, suc, _<_, _≤_}
-use lib.Dec.{T, eqb, leb, ltb, eqb→eq, ltb→lt}
+use lib.Dec.{T, eqb, leb, ltb, ltb→lt}
 use lib.Ieee.Bits.{is-true}
 use lib.ListN.{getD}
 use borrow.Author.Tests.{le-leb, lt-leb, lt-ltb, le-ltb, not-true}

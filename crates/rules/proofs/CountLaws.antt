@@ -10,7 +10,7 @@ use lib.ListN.{length, getD, set, take, drop}
 use lib.Seq.{take-nil, drop-nil}
 use borrow.Author.Tests.{eq-eqb, ne-eqb}
 use Rattle.layout.specs.Pick.{pick}
-use Rattle.layout.specs.Rows.{rowCount, block, blocks, blockStarts}
+use Rattle.layout.specs.Rows.{rowCount, block, blocks}
 use Rattle.layout.specs.Lists.{tabulate}
 use Rattle.layout.proofs.TabulateLaws.{tabulate-length, tabulate-at, tabulate-set}
 use Rattle.layout.proofs.StartLaws.{startOf, starts-rise, in-block, before-block, past-block}

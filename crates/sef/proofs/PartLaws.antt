@@ -12,7 +12,7 @@ use Rattle.layout.proofs.StartLaws.{starts-rise, starts-end}
 use Rattle.rules.specs.Totals.{sum, blockCount}
 use Rattle.rules.proofs.CountLaws.{block-part}
 
--- block x - 1: its rows begin at `from`, and end before `to`
+-- block x - 1, whose rows end where those of block x begin
 module _ (starts : List ℕ) (are : starts ≡ blockStarts) where
   pub part-rises : (x : ℕ) → 0 < x → x ≤ blocks → getD starts (x - 1) 0 ≤ getD starts x 0
   part-rises zero h l = absurd (omega arith)

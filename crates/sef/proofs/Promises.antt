@@ -1,13 +1,11 @@
 -- What the promises' file says of the totals (specs/Promises.antt), each under the statement's name.
-use mathlib.Core.Path.{_≡_, _∙_, refl, sym, ap}
-use mathlib.Core.Bool.{true, false, true≢false}
+use mathlib.Core.Path.{_≡_, _∙_, sym, ap}
+use mathlib.Core.Bool.{true, false}
 use mathlib.Core.List.{List, reverse}
-use Prim.Native.Nat.{ℕ, _<_}
+use Prim.Native.Nat.{ℕ}
 use native.Mathlib.Omega.{arith}
 use lib.ListN.{getD}
-use Rattle.layout.specs.Rows.{blocks}
 use Rattle.rules.specs.Bytes.{rows}
-use Rattle.rules.specs.Counts.{linesOfBlock}
 use Rattle.rules.specs.Totals.{sum}
 use Rattle.rules.specs.Verdict.{standing, totals, totalsOf}
 use Rattle.rules.proofs.TestLaws.{both}
@@ -16,7 +14,6 @@ use Rattle.sef.specs.Answers.{numbersOf, said, finallySaid, reportSaid}
 use Rattle.sef.specs.Calls.{openOf, stoppedOf, keptOf, checkOf, finalAnswerOf, finishOf}
 use Rattle.sef.specs.Ranges.{rangedOf}
 use Rattle.sef.specs.Promises as P
-use Rattle.sef.specs.Promises.{AllBytes, Reports}
 use Rattle.sef.specs.declared.state.State.{State}
 use Rattle.sef.specs.declared.answers.Checked.{Checked}
 use Rattle.sef.specs.declared.answers.Finished.{Finished}

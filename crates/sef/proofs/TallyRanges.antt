@@ -15,7 +15,7 @@ use Rattle.layout.specs.Pick.{pick}
 use Rattle.layout.specs.Rows.{rowCount, parent, block, blocks}
 use Rattle.layout.proofs.StartLaws.{block-below}
 use Rattle.rules.specs.Bytes.{LF}
-use Rattle.rules.specs.Totals.{sum, blockCount}
+use Rattle.rules.specs.Totals.{blockCount}
 use Rattle.rules.proofs.TestLaws.{split, pick-le}
 use Rattle.rules.proofs.CountLaws.{sum-set, sum-most, block-set, block-most}
 use Rattle.line.specs.Machine.{entryOf, usedOf}

@@ -84,6 +84,7 @@ fn check_input(blocks: bool) {
     }
 }
 
+// The bytes of the one option, --blocks.
 const OPTION: usize = 8;
 
 fn is_blocks(word: &[u8; OPTION]) -> bool {
