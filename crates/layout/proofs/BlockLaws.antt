@@ -6,10 +6,11 @@ use Prim.Native.Nat.{ℕ, _<_}
 use lib.Dec.{T, eqb, ltb, eqb→eq, ltb→lt}
 use lib.Ieee.Bits.{is-true}
 use borrow.Author.Tests.{lt-ltb}
+use Rattle.layout.specs.Lists.{allBelow}
 use Rattle.layout.specs.Text.{bytes, codeNumber, textNumber}
 use Rattle.layout.specs.Rows.{rowTable, rowCount, listed, code, level, block, placeOf, blockLetters}
 use Rattle.layout.specs.Rows.{lastAmong, isOpening, isClosing, opening, row0000, row9999}
-use Rattle.layout.proofs.Below.{below, those, those-at}
+use Rattle.layout.proofs.Below.{those, those-at}
 
 -- the rows that no parent row holds
 abbrev shallow : ℕ → Bool
@@ -22,7 +23,7 @@ abbrev levelOne : ℕ → Bool
 levelOne r = eqb (level r) 1
 
 roles : T (those rowCount shallow hasRole) × T (those rowCount isOpening levelOne) × T (those rowCount isClosing levelOne)
-unfolding those below isOpening isClosing level code listed rowTable textNumber codeNumber bytes
+unfolding those allBelow isOpening isClosing level code listed rowTable textNumber codeNumber bytes
 roles = (tt, tt, tt)
 
 pub shallow-roles : (r : ℕ) → r < rowCount → level r < 2 → (eqb r row0000 || isOpening r || isClosing r || eqb r row9999) ≡ true
@@ -45,7 +46,7 @@ abbrev before : ℕ → Bool
 before r = ltb (opening r) r
 
 ends : T (those rowCount isClosing opens) × T (those rowCount isClosing sameBlock) × T (those rowCount isClosing before)
-unfolding those below isOpening isClosing opening lastAmong block
+unfolding those allBelow isOpening isClosing opening lastAmong block
     placeOf blockLetters code listed rowTable textNumber codeNumber bytes
 ends = (tt, tt, tt)
 

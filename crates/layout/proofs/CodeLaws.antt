@@ -9,14 +9,15 @@ use native.Mathlib.Omega.{arith}
 use lib.Dec.{T, eqb}
 use lib.ListN.{length, getD}
 use borrow.Author.Tests.{eqb-true}
+use Rattle.layout.specs.Lists.{allBelow}
 use Rattle.layout.specs.Text.{bytes, codeNumber, textNumber}
 use Rattle.layout.specs.Rows.{Listed, rowTable, rowCount, none, noRow, listed, code, rowFrom, rowOfCode}
-use Rattle.layout.proofs.Below.{below, below-equal}
+use Rattle.layout.proofs.Below.{below-equal}
 use Rattle.layout.proofs.RowLaws.{row-count}
 
 -- the row of each row's code; of "no row", whose code is 0, none
-computed : T (below (suc rowCount) (λ r. eqb (rowOfCode (code r)) r))
-unfolding below rowOfCode rowFrom code listed rowTable textNumber codeNumber bytes
+computed : T (allBelow (suc rowCount) (λ r. eqb (rowOfCode (code r)) r))
+unfolding allBelow rowOfCode rowFrom code listed rowTable textNumber codeNumber bytes
 computed = tt
 
 pub row-of-code-or-none : (r : ℕ) → r ≤ rowCount → rowOfCode (code r) ≡ r

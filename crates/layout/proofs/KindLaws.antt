@@ -2,7 +2,7 @@
 -- row's start on, and field 2 of an opening alone has the kind opens.
 use mathlib.Core.Path.{_≡_, refl, sym, ap}
 use mathlib.Core.Bool.{Bool, true, false, not, _&&_, and-false}
-use mathlib.Core.List.{[], _∷_}
+use mathlib.Core.List.{List, [], _∷_}
 use Prim.Native.Nat.{ℕ, zero, suc, _+_, _-_, _<_, _≤_, zero-le}
 use native.Mathlib.Nat.{zero-add}
 use native.Mathlib.Decide.{decLt}
@@ -10,16 +10,17 @@ use native.Mathlib.Omega.{arith}
 use lib.Dec.{T, eqb, leb, leb→le, eqb→eq, lit≤}
 use lib.Ieee.Bits.{is-true}
 use lib.Ieee.Fits.{and-l, and-r}
-use lib.ListN.{length, getD, List·getD-eq-default}
+use lib.ListN.{length, getD, drop, List·getD-eq-default}
 use borrow.Author.Tests.{ne-eqb, not-true}
+use Rattle.layout.specs.Lists.{allBelow}
 use Rattle.layout.specs.Text.{bytes, codeNumber, textNumber}
 use Rattle.layout.specs.Rows.{rowTable, rowCount, listed, code, fields, isOpening, isClosing, row9999}
-use Rattle.layout.specs.Kind.{Kind, codeField, C, N, N-, decimals, date, cnpj, cpf, lfpd, brasil, opens, count, noField}
+use Rattle.layout.specs.Kind.{Kind, codeField, lineCode, C, N, N-, decimals, date, cnpj, cpf, lfpd, brasil, opens, count, noField}
 use Rattle.layout.specs.Kind.{mostSize, isKnown}
 use Rattle.layout.specs.Sheets.{sheets}
 use Rattle.layout.specs.Kinds.{kindOf, sheetOf, fitted, kindsOf, kind, fieldCount, rowStart}
 use Rattle.layout.specs.Packed.{kindNumber, mostKind, flatKinds}
-use Rattle.layout.proofs.Below.{below, below-at, those, those-at}
+use Rattle.layout.proofs.Below.{below-at, those, those-at}
 use Rattle.layout.proofs.Every.{every, every-at, every-or}
 use Rattle.layout.proofs.RowLaws.{listed-none}
 use Rattle.layout.proofs.ListLaws.{Starts, part-ends, joined-at}
@@ -33,8 +34,8 @@ field-count = refl
 abbrev fits : ℕ → Bool
 fits r = eqb (length (kindsOf r)) (fields r) && every isKnown (kindsOf r)
 
-parts-fit : T (below rowCount fits)
-unfolding below every isKnown kindsOf fitted kindOf sheetOf sheets isOpening isClosing
+parts-fit : T (allBelow rowCount fits)
+unfolding allBelow every isKnown kindsOf fitted kindOf sheetOf sheets isOpening isClosing
     fields code listed rowTable textNumber codeNumber bytes
 parts-fit = tt
 
@@ -92,28 +93,39 @@ abbrev isOther : ℕ → Bool
 isOther r = not (isOpening r)
 
 others-opensless : T (those rowCount isOther (λ r. every noOpens (kindsOf r)))
-unfolding those below every kindNumber kindsOf fitted kindOf sheetOf sheets isOpening isClosing
+unfolding those allBelow every kindNumber kindsOf fitted kindOf sheetOf sheets isOpening isClosing
     fields code listed rowTable textNumber codeNumber bytes
 others-opensless = tt
 
--- of an opening's two fields it is the second
-in-opening : (n : ℕ) → isOpens (getD (codeField ∷ opens ∷ []) (n - 1) noField) ≡ (eqb n 2 && true)
+-- what an opening has past field 2
+abbrev further : ℕ → List Kind
+further r = fitted (fields r - 2) (drop 2 (sheetOf (listed r .code) sheets))
+
+further-opensless : T (those rowCount isOpening (λ r. every noOpens (further r)))
+unfolding those allBelow every kindNumber fitted kindOf sheetOf sheets isOpening
+    fields code listed rowTable textNumber codeNumber bytes
+further-opensless = tt
+
+-- of an opening's fields it is the second
+in-opening : (ks : List Kind) → T (every noOpens ks) → (n : ℕ)
+    → isOpens (getD (codeField ∷ opens ∷ ks) (n - 1) noField) ≡ (eqb n 2 && true)
 unfolding kindNumber
-in-opening zero = refl
-in-opening (suc zero) = refl
-in-opening (suc (suc zero)) = refl
-in-opening (suc (suc (suc n))) =
-    rw (
-      ne-eqb (suc (suc (suc n))) 2 (λ e. omega arith),
-      List·getD-eq-default (codeField ∷ opens ∷ []) noField {n = suc (suc (suc n)) - 1} (omega arith),
-    )
+in-opening ks t zero = refl
+in-opening ks t (suc zero) = refl
+in-opening ks t (suc (suc zero)) = refl
+in-opening ks t (suc (suc (suc n))) =
+    let past : suc (suc (suc n)) - 1 ≡ suc (suc n) = omega arith in
+    rw (ne-eqb (suc (suc (suc n))) 2 (λ e. omega arith), past)
+    (not-true (isOpens (getD ks n noField)) (is-true _ (every-or noOpens ks t n noField tt)))
 
 pub opens-kind : (r n : ℕ) → r < rowCount → eqb (kindNumber (kind r n)) (kindNumber opens) ≡ (eqb n 2 && isOpening r)
 unfolding kind kindNumber
 opens-kind r n h = go (isOpening r) refl
   where
     go : (o : Bool) → isOpening r ≡ o → isOpens (kind r n) ≡ (eqb n 2 && isOpening r)
-    go true e = unfold kindsOf in rw e (in-opening n)
+    go true e =
+        unfold kindsOf in
+        rw e (in-opening (further r) (those-at rowCount isOpening (λ r. every noOpens (further r)) further-opensless r h e) n)
     go false e =
         let other = kinds-pass isOther noOpens others-opensless tt r n h (rw e) in
         rw (e, not-true (isOpens (kind r n)) (is-true _ other), and-false (eqb n 2))
@@ -123,6 +135,7 @@ known-small : (k : Kind) → T (isKnown k) → kindNumber k ≤ mostKind
 unfolding isKnown kindNumber
 known-small codeField t = lit≤ tt
 known-small (C s) t = let h = leb→le s mostSize t in omega arith
+known-small lineCode t = lit≤ tt
 known-small (N s) t = let h = leb→le s mostSize (and-r (leb 1 s) (leb s mostSize) t) in omega arith
 known-small N- t = lit≤ tt
 known-small (decimals d) t = let h = leb→le d mostSize (and-r (leb 1 d) (leb d mostSize) t) in omega arith

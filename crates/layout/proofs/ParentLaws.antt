@@ -5,11 +5,12 @@ use Prim.Native.Nat.{ℕ, suc, _<_, _≤_}
 use native.Mathlib.Nat.{le-refl}
 use lib.Dec.{T, eqb, leb, eqb→eq}
 use borrow.Author.Tests.{le-leb, lt-leb}
+use Rattle.layout.specs.Lists.{allBelow}
 use Rattle.layout.specs.Pick.{pick}
 use Rattle.layout.specs.Text.{bytes, codeNumber, textNumber}
 use Rattle.layout.specs.Rows.{rowTable, rowCount, none, listed, code, level, block}
 use Rattle.layout.specs.Rows.{placeOf, blockLetters, lastAmong, parent}
-use Rattle.layout.proofs.Below.{below, those, those-at}
+use Rattle.layout.proofs.Below.{those, those-at}
 use Rattle.layout.proofs.RowLaws.{last-among-le}
 
 abbrev hasParent : ℕ → Bool
@@ -22,7 +23,7 @@ abbrev levelLess : ℕ → Bool
 levelLess r = eqb (suc (level (parent r))) (level r)
 
 computed : T (those rowCount hasParent sameBlock) × T (those rowCount hasParent levelLess)
-unfolding those below parent lastAmong block placeOf blockLetters level code listed rowTable textNumber codeNumber bytes
+unfolding those allBelow parent lastAmong block placeOf blockLetters level code listed rowTable textNumber codeNumber bytes
 computed = (tt, tt)
 
 module _ (r : ℕ) (h : r < rowCount) (deep : 2 ≤ level r) where

@@ -7,13 +7,14 @@ use native.Mathlib.Omega.{arith}
 use lib.Dec.{T, eqb, leb, eqb→eq}
 use lib.Ieee.Bits.{is-true}
 use borrow.Author.Tests.{eqb-true, eq-eqb, ne-eqb, le-leb, not-true}
+use Rattle.layout.specs.Lists.{allBelow}
 use Rattle.layout.specs.Text.{bytes, codeNumber, textNumber}
 use Rattle.layout.specs.Rows.{rowTable, rowCount, none, listed, code, fields, level, block, placeOf, blockLetters}
-use Rattle.layout.specs.Rows.{isOpening, isClosing, lastAmong, parent, opening, row0000, row9990, row9999}
-use Rattle.layout.specs.Kind.{codeField, opens, count}
+use Rattle.layout.specs.Rows.{isOpening, isClosing, lastAmong, parent, opening, row0000, row9900, row9990, row9999}
+use Rattle.layout.specs.Kind.{codeField, lineCode, N-, opens, count}
 use Rattle.layout.specs.Sheets.{sheets}
 use Rattle.layout.specs.Kinds.{kindOf, sheetOf, fitted, kindsOf, kind}
-use Rattle.layout.proofs.Below.{below, below-most, those, those-at}
+use Rattle.layout.proofs.Below.{below-most, those, those-at}
 use Rattle.layout.proofs.RowLaws.{level-none}
 use Rattle.layout.proofs.BlockLaws.{shallow-roles, opening-before}
 
@@ -50,7 +51,7 @@ onlyOpening r = eqb (lastAmong (λ k. eqb (block k) (block r) && isOpening k) ro
 
 computed : T (those rowCount isDataRow (λ r. not (isClosing (parent r)))) × T (those rowCount isLevelOne isEnd)
     × T (those rowCount isOpening onlyOpening)
-unfolding those below parent lastAmong block placeOf blockLetters level
+unfolding those allBelow parent lastAmong block placeOf blockLetters level
     isOpening isClosing code listed rowTable textNumber codeNumber bytes
 computed = (tt, tt, tt)
 
@@ -77,7 +78,7 @@ opening-row r h e = let l = opening-before r h e in omega arith
 
 -- 9 is the last block
 pub block-last : (r : ℕ) → r < rowCount → block r ≤ block row9999
-unfolding below block placeOf blockLetters code listed rowTable textNumber codeNumber bytes
+unfolding allBelow block placeOf blockLetters code listed rowTable textNumber codeNumber bytes
 block-last = below-most rowCount block (λ r. block row9999) tt
 
 -- a code does not end both in 001 and in 990
@@ -125,6 +126,18 @@ pub opening-9999 : isOpening row9999 ≡ false
 unfolding rowTable listed code isOpening bytes codeNumber textNumber
 opening-9999 = refl
 
+pub opening-9900 : isOpening row9900 ≡ false
+unfolding rowTable listed code isOpening bytes codeNumber textNumber
+opening-9900 = refl
+
+pub fields-9900 : fields row9900 ≡ 3
+unfolding fields listed rowTable
+fields-9900 = refl
+
+pub fields-9999 : fields row9999 ≡ 2
+unfolding fields listed rowTable
+fields-9999 = refl
+
 pub level-0000 : level row0000 ≡ 0
 unfolding rowTable listed level
 level-0000 = refl
@@ -133,7 +146,7 @@ pub level-9999 : level row9999 ≡ 0
 unfolding rowTable listed level
 level-9999 = refl
 
--- the kinds of field 1 and of field 2 in the frame
+-- the kinds of field 1, of field 2 in the frame, and of the fields of 9900
 pub none-kind : kind none 1 ≡ codeField
 unfolding kind kindsOf fitted kindOf sheetOf sheets isOpening isClosing code fields listed rowTable bytes codeNumber textNumber
 none-kind = refl
@@ -149,3 +162,7 @@ closing-kind r e = rw (closing-opening r e, e)
 pub kind-9999 : kind row9999 2 ≡ count
 unfolding kind kindsOf isOpening code listed rowTable bytes codeNumber textNumber isClosing
 kind-9999 = refl
+
+pub kinds-9900 : (kind row9900 2 ≡ lineCode) × (kind row9900 3 ≡ N-)
+unfolding kind kindsOf fitted kindOf sheetOf sheets isOpening isClosing code fields listed rowTable bytes codeNumber textNumber
+kinds-9900 = (refl, refl)

@@ -5,11 +5,12 @@ use Prim.Native.Nat.{ℕ, zero, suc, _<_, _≤_, suc-le-suc}
 use native.Mathlib.Nat.{le-refl}
 use native.Mathlib.Omega.{arith}
 use lib.ListN.{length, List·getD-eq-default}
+use Rattle.layout.specs.Lists.{allBelow}
 use Rattle.layout.specs.Pick.{pick}
 use Rattle.layout.specs.Text.{textNumber}
 use Rattle.layout.specs.Rows.{rowTable, rowCount, noRow, listed, code, fields, mostFields, level, lastAmong}
-use Rattle.layout.specs.Rows.{row0000, row0001, row9990, row9999}
-use Rattle.layout.proofs.Below.{below, below-most}
+use Rattle.layout.specs.Rows.{row0000, row0001, row9900, row9990, row9999}
+use Rattle.layout.proofs.Below.{below-most}
 
 pub row-count : length rowTable ≡ rowCount
 unfolding rowTable
@@ -21,18 +22,18 @@ listed-none r h = List·getD-eq-default rowTable noRow (rw row-count h)
 
 -- the rows with a name have these codes
 pub named-rows :
-    (code row0000 ≡ textNumber "0000") × (code row0001 ≡ textNumber "0001") × (code row9990 ≡ textNumber "9990")
-    × (code row9999 ≡ textNumber "9999")
+    (code row0000 ≡ textNumber "0000") × (code row0001 ≡ textNumber "0001") × (code row9900 ≡ textNumber "9900")
+    × (code row9990 ≡ textNumber "9990") × (code row9999 ≡ textNumber "9999")
 unfolding code listed rowTable
-named-rows = (refl, refl, refl, refl)
+named-rows = (refl, refl, refl, refl, refl)
 
 -- every row has a field after its code
 pub fields-two : (r : ℕ) → r < rowCount → 2 ≤ fields r
-unfolding below fields listed rowTable
+unfolding allBelow fields listed rowTable
 fields-two = below-most rowCount (λ r. 2) fields tt
 
 pub fields-most : (r : ℕ) → r ≤ rowCount → fields r ≤ mostFields
-unfolding below fields listed rowTable
+unfolding allBelow fields listed rowTable
 fields-most r h = below-most (suc rowCount) fields (λ r. mostFields) tt r (suc-le-suc h)
 
 pub level-none : (r : ℕ) → rowCount ≤ r → level r ≡ 0

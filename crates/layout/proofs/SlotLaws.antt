@@ -6,10 +6,11 @@ use native.Mathlib.Decide.{decLt}
 use native.Mathlib.Omega.{arith}
 use lib.Dec.{T, eqb, leb, lit<}
 use lib.ListN.{getD}
+use Rattle.layout.specs.Lists.{allBelow}
 use Rattle.layout.specs.Text.{bytes, codeNumber, textNumber}
 use Rattle.layout.specs.Rows.{rowTable, rowCount, none, listed, code, rowOfCode}
-use Rattle.layout.specs.Packed.{slotCount, slotOf, slotsOf, slotTable}
-use Rattle.layout.proofs.Below.{below, below-equal, below-most}
+use Rattle.layout.specs.Packed.{slotCount, spread, slotOf, slotsOf, slotTable}
+use Rattle.layout.proofs.Below.{below-equal, below-most}
 use Rattle.layout.proofs.CodeLaws.{row-of-code-or-none, row-of-code-le, row-of-code-code}
 
 -- the row at a slot
@@ -17,18 +18,18 @@ abbrev rowAt : ℕ → ℕ
 rowAt s = getD slotTable s 0
 
 pub slot-within : (c : ℕ) → slotOf c < slotCount
-slot-within c = mod-lt (c % 501585) (lit< tt)
+slot-within c = mod-lt (c % spread) (lit< tt)
 
 -- each row stands at its own code's slot
-own : T (below rowCount (λ r. eqb (rowAt (slotOf (code r))) r))
-unfolding below slotTable slotsOf code listed rowTable textNumber codeNumber bytes
+own : T (allBelow rowCount (λ r. eqb (rowAt (slotOf (code r))) r))
+unfolding allBelow slotTable slotsOf code listed rowTable textNumber codeNumber bytes
 own = tt
 
 slot-row : (r : ℕ) → r < rowCount → rowAt (slotOf (code r)) ≡ r
 slot-row = below-equal rowCount (λ r. rowAt (slotOf (code r))) (λ r. r) own
 
-most : T (below slotCount (λ s. leb (rowAt s) rowCount))
-unfolding below slotTable slotsOf code listed rowTable textNumber codeNumber bytes
+most : T (allBelow slotCount (λ s. leb (rowAt s) rowCount))
+unfolding allBelow slotTable slotsOf code listed rowTable textNumber codeNumber bytes
 most = tt
 
 pub slot-most : (s : ℕ) → s < slotCount → rowAt s ≤ rowCount

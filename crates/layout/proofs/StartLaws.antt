@@ -6,10 +6,11 @@ use lib.Dec.{T, eqb, leb, ltb, ltb→lt}
 use lib.Ieee.Bits.{is-true}
 use lib.ListN.{getD}
 use borrow.Author.Tests.{le-leb, lt-leb, lt-ltb, le-ltb, not-true}
+use Rattle.layout.specs.Lists.{allBelow}
 use Rattle.layout.specs.Pick.{pick}
 use Rattle.layout.specs.Text.{bytes, codeNumber, textNumber}
 use Rattle.layout.specs.Rows.{rowTable, rowCount, listed, code, block, blocks, placeOf, blockLetters, blockStarts}
-use Rattle.layout.proofs.Below.{below, below-at, below-most}
+use Rattle.layout.proofs.Below.{below-at, below-most}
 
 abbrev pub startOf : ℕ → ℕ
 startOf x = getD blockStarts x 0
@@ -19,9 +20,9 @@ abbrev asStarts : ℕ → ℕ → Bool
 asStarts r x =
     pick (leb (startOf x) r) (pick (ltb r (startOf (suc x))) (eqb (block r) x) (not (eqb (block r) x))) (not (eqb (block r) x))
 
-computed : T (below rowCount (λ r. below blocks (asStarts r))) × T (below blocks (λ x. leb (startOf x) (startOf (suc x))))
-    × T (below blocks (λ x. leb (startOf (suc x)) rowCount)) × T (below rowCount (λ r. ltb (block r) blocks))
-unfolding below blockStarts block placeOf blockLetters code listed rowTable textNumber codeNumber bytes
+computed : T (allBelow rowCount (λ r. allBelow blocks (asStarts r))) × T (allBelow blocks (λ x. leb (startOf x) (startOf (suc x))))
+    × T (allBelow blocks (λ x. leb (startOf (suc x)) rowCount)) × T (allBelow rowCount (λ r. ltb (block r) blocks))
+unfolding allBelow blockStarts block placeOf blockLetters code listed rowTable textNumber codeNumber bytes
 computed = (tt, tt, tt, tt)
 
 -- the blocks come one after the other, and the last of them ends with the rows
@@ -36,7 +37,7 @@ block-below r h = ltb→lt (block r) blocks (below-at rowCount (λ r. ltb (block
 
 module _ (r x : ℕ) (h : r < rowCount) (l : x < blocks) where
   as-starts : T (asStarts r x)
-  as-starts = below-at blocks (asStarts r) (below-at rowCount (λ r. below blocks (asStarts r)) (computed .0) r h) x l
+  as-starts = below-at blocks (asStarts r) (below-at rowCount (λ r. allBelow blocks (asStarts r)) (computed .0) r h) x l
 
   pub in-block : startOf x ≤ r → r < startOf (suc x) → eqb (block r) x ≡ true
   in-block a b = is-true (eqb (block r) x) (rw (le-leb (startOf x) r a, lt-ltb r (startOf (suc x)) b) at as-starts)

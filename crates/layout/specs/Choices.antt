@@ -1,5 +1,5 @@
--- docs/FIELDS.md: the rows whose sheets list another number of fields than 2.6.1 gives, and the fields at which the sheets and
--- the other texts part ways, with what each of them is here.
+-- What docs/ says of single rows and fields. docs/FIELDS.md: the rows whose sheets list another number of fields than 2.6.1 gives, and
+-- the fields at which the sheets and the other texts part ways, with what each of them is here.
 use mathlib.Core.Bool.{Bool, not, _&&_, _||_}
 use mathlib.Core.List.{List, [], _∷_}
 use Prim.Native.Nat.{ℕ, suc}
@@ -9,8 +9,8 @@ use lib.ListN.{length}
 use Rattle.layout.specs.Lists.{joinedParts}
 use Rattle.layout.specs.Pick.{pick}
 use Rattle.layout.specs.Text.{textNumber, sameText}
-use Rattle.layout.specs.Rows.{Listed, rowCount, listed, rowOfCode}
-use Rattle.layout.specs.Kind.{Kind, C, C-, N, N-, decimals, date, cnpj, cpf, lfpd, brasil, noField}
+use Rattle.layout.specs.Rows.{Listed, anyNumber, rowCount, listed, limit, rowOfCode}
+use Rattle.layout.specs.Kind.{Kind, lineCode, C, C-, N, N-, decimals, date, cnpj, cpf, lfpd, brasil, opens, noField}
 use Rattle.layout.specs.Sheets.{sheets}
 use Rattle.layout.specs.Kinds.{sheetOf, kindsOf, kind}
 use Rattle.layout.specs.Packed.{kindNumber}
@@ -57,13 +57,55 @@ choices =
     choice "E003" 4 N- ∷
     choice "0000" 2 lfpd ∷
     choice "0000" 16 brasil ∷
+    choice "8001" 2 opens ∷
+    choice "8001" 3 (C 2) ∷
+    choice "8001" 4 noField ∷
+    choice "9020" 2 (C 4) ∷
+    choice "9020" 16 (C 6) ∷
     -- only names that begin DT_ are dates: not PER_REF, a month and year
     choice "E360" 4 (N 6) ∷
     choice "E360" 7 date ∷
+    choice "9020" 3 (N 8) ∷
+    choice "9040" 7 (N 8) ∷
+    -- the last column of 8160 repeats the field numbers: no decimals
+    choice "8160" 2 (N 1) ∷
+    choice "8160" 3 date ∷
     -- only names that begin CNPJ or CPF have check digits: not EQP_CNPJ
     choice "F205" 4 (N 14) ∷
+    choice "9020" 6 (N 14) ∷
+    choice "9020" 17 (N 11) ∷
+    -- 9900 states how often a code occurs, 9030 what is not judged
+    choice "9900" 2 lineCode ∷
+    choice "9900" 3 N- ∷
+    choice "9030" 2 (C 4) ∷
+    choice "9030" 3 N- ∷
     -- the largest size: TXT
     choice "0450" 3 (C 65536) ∷
+    []
+
+-- docs/DECISIONS.md: how the occurrences of block 8 are read, each as the most lines of its row under one parent line
+pub record Reading : Type 0 where
+  pub says : ℕ
+  pub given : ℕ
+
+abbrev reading : String → ℕ → Reading
+reading code n = record { says = n; given = limit (rowOfCode (textNumber code)) }
+
+unfoldable pub readings : List Reading
+readings =
+    -- "1/período": any number at level 2, one at level 3
+    reading "8020" anyNumber ∷
+    reading "8165" 1 ∷
+    -- "1/sub-apuração": any number where one is opened, one beneath it
+    reading "8545" anyNumber ∷
+    reading "8560" 1 ∷
+    reading "8570" 1 ∷
+    reading "8580" 1 ∷
+    reading "8590" 1 ∷
+    -- "4/1", "990/1", and "1" at level 3
+    reading "8585" 4 ∷
+    reading "8535" 990 ∷
+    reading "8050" 1 ∷
     []
 
 -- a field that has check digits: its line's code, its number and its kind

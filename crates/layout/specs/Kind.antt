@@ -8,6 +8,8 @@ pub data Kind : Type 0 where
   codeField : Kind
   -- "C with a size: at most that many"
   C : ℕ → Kind
+  -- 02, request f: the code of the lines that a 9900 line counts, C of size 4
+  lineCode : Kind
   -- "N with a size: digits, exactly that many"
   N : ℕ → Kind
   -- "N without size and decimals: digits"
@@ -43,6 +45,7 @@ mostSize = 65536
 unfoldable pub isKnown : Kind → Bool
 isKnown codeField = true
 isKnown (C s) = leb s mostSize
+isKnown lineCode = true
 isKnown (N s) = leb 1 s && leb s mostSize
 isKnown N- = true
 isKnown (decimals d) = leb 1 d && leb d mostSize

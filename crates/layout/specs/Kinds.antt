@@ -1,10 +1,10 @@
--- 02, request a: "Type every remaining line from Appendix B, so that all 995 fields of the 98 rows have a kind."
+-- 02, request a: "Type every remaining line from Appendix B", so that all fields of all rows have a kind.
 use mathlib.Core.Bool.{_||_}
 use mathlib.Core.List.{List, [], _∷_}
 use Prim.Native.Nat.{ℕ, zero, suc, _+_, _-_}
 use Prim.Native.String.{String}
 use lib.Dec.{eqb}
-use lib.ListN.{getD}
+use lib.ListN.{getD, drop}
 use Rattle.layout.specs.Pick.{pick}
 use Rattle.layout.specs.Text.{sameText, begins}
 use Rattle.layout.specs.Rows.{listed, fields, isOpening, isClosing, row9999}
@@ -30,19 +30,21 @@ fitted zero es = []
 fitted (suc n) [] = C- ∷ fitted n []
 fitted (suc n) (e ∷ es) = kindOf e ∷ fitted n es
 
--- the kinds of a row's fields; those of openings, closings and 9999 are said by 01 itself
+-- the kinds of a row's fields; those of openings, closings and 9999 are said by 01 itself. 02, request f: 8001's "opening has 3
+-- fields", of which the sheet gives the third
 unfoldable pub kindsOf : ℕ → List Kind
 kindsOf r =
-    pick (isOpening r) (codeField ∷ opens ∷ [])
-    (pick (isClosing r || eqb r row9999) (codeField ∷ count ∷ []) (fitted (fields r) (sheetOf (listed r .code) sheets)))
+    let sheet = sheetOf (listed r .code) sheets in
+    pick (isOpening r) (codeField ∷ opens ∷ fitted (fields r - 2) (drop 2 sheet))
+    (pick (isClosing r || eqb r row9999) (codeField ∷ count ∷ []) (fitted (fields r) sheet))
 
 -- the kind of a row's field number n, from 1; past the row's fields there is no field
 unfoldable pub kind : ℕ → ℕ → Kind
 kind r n = getD (kindsOf r) (n - 1) noField
 
--- "all 995 fields of the 98 rows have a kind"
+-- the number of fields of all rows
 abbrev pub fieldCount : ℕ
-fieldCount = 995
+fieldCount = 1238
 
 -- row starts: the number of the fields of the rows before row r
 unfoldable pub rowStart : ℕ → ℕ

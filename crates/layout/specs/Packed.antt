@@ -5,11 +5,11 @@ use lib.ListN.{replicate, set}
 use Rattle.layout.specs.Lists.{tabulate, joinedParts}
 use Rattle.layout.specs.Text.{textNumber}
 use Rattle.layout.specs.Rows.{Listed, rowTable, noRow, rowCount, none, code, parent}
-use Rattle.layout.specs.Kind.{Kind, codeField, C, N, N-, decimals, date, cnpj, cpf, lfpd, brasil, opens, count, noField}
+use Rattle.layout.specs.Kind.{Kind, codeField, lineCode, C, N, N-, decimals, date, cnpj, cpf, lfpd, brasil, opens, count, noField}
 use Rattle.layout.specs.Kind.{mostSize}
 use Rattle.layout.specs.Kinds.{kindsOf, rowStart}
 
--- "constant table of the 98 rows (code, fields, level, occurrence)": these four numbers a row, and one row more for "no row"
+-- "constant table of the .. rows (code, fields, level, occurrence)": these four numbers a row, and one row more for "no row"
 abbrev pub fourNumbers : Listed → List ℕ
 fourNumbers l = textNumber (l .code) ∷ l .fields ∷ l .level ∷ l .occurrence ∷ []
 
@@ -34,38 +34,41 @@ noFieldClass = 0
 abbrev pub codeClass : ℕ
 codeClass = 1
 
+abbrev pub lineCodeClass : ℕ
+lineCodeClass = 2
+
 abbrev pub cClass : ℕ
-cClass = 2
+cClass = 3
 
 abbrev pub nClass : ℕ
-nClass = 3
+nClass = 4
 
 abbrev pub nAnyClass : ℕ
-nAnyClass = 4
+nAnyClass = 5
 
 abbrev pub decimalsClass : ℕ
-decimalsClass = 5
+decimalsClass = 6
 
 abbrev pub dateClass : ℕ
-dateClass = 6
+dateClass = 7
 
 abbrev pub lfpdClass : ℕ
-lfpdClass = 7
+lfpdClass = 8
 
 abbrev pub brasilClass : ℕ
-brasilClass = 8
+brasilClass = 9
 
 abbrev pub opensClass : ℕ
-opensClass = 9
+opensClass = 10
 
 abbrev pub countClass : ℕ
-countClass = 10
+countClass = 11
 
 abbrev pub cnpjClass : ℕ
-cnpjClass = 11
+cnpjClass = 12
 
 abbrev pub cpfClass : ℕ
-cpfClass = 12
+cpfClass = 13
 
 -- a kind: its class, and so many times its size; where the size is not asked of the field, it is 0
 abbrev pub sizeUnit : ℕ
@@ -73,6 +76,7 @@ sizeUnit = 16
 
 unfoldable pub kindNumber : Kind → ℕ
 kindNumber codeField = codeClass
+kindNumber lineCode = lineCodeClass + sizeUnit * 4
 kindNumber (C n) = cClass + sizeUnit * n
 kindNumber (N n) = nClass + sizeUnit * n
 kindNumber N- = nAnyClass
@@ -90,7 +94,7 @@ kindNumber noField = noFieldClass
 abbrev pub mostKind : ℕ
 mostKind = sizeUnit * suc mostSize - 1
 
--- "flat constant table of 995 field kinds, indexed through row starts"
+-- "flat constant table of .. field kinds, indexed through row starts"
 unfoldable pub flatKinds : List Kind
 flatKinds = joinedParts rowCount kindsOf
 
@@ -99,10 +103,13 @@ packedKinds = map kindNumber flatKinds
 
 -- the slot of a code; no two of the rows' codes have the same
 abbrev pub slotCount : ℕ
-slotCount = 249
+slotCount = 405
+
+abbrev pub spread : ℕ
+spread = 849512
 
 abbrev pub slotOf : ℕ → ℕ
-slotOf c = c % 501585 % slotCount
+slotOf c = c % spread % slotCount
 
 -- the slots of the first n rows' codes: each row stands at its code's slot, and none at the others
 unfoldable pub slotsOf : ℕ → List ℕ

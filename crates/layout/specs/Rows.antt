@@ -1,4 +1,5 @@
--- 01, "The 98 rows", as data in 01's order, and what the table says of a row. A row goes by its number, from 0.
+-- 01's rows, as data in 01's order, with those that 02, request f, adds from 2.6.1: block 8, and the data rows of block 9. What the
+-- table says of a row. A row goes by its number, from 0.
 use mathlib.Core.Bool.{Bool, _&&_}
 use mathlib.Core.List.{List, [], _∷_, _++_}
 use Prim.Native.Nat.{ℕ, zero, suc, _+_, _-_, _/_, _%_}
@@ -26,9 +27,13 @@ anyNumber = 0
 abbrev pub P : ℕ
 P = 1000
 
+-- "1/sub-apuração" in 2.6.1 (docs/DECISIONS.md)
+abbrev pub S : ℕ
+S = 1001
+
 -- the number of rows; as the number of a row it stands for "no row"
 abbrev pub rowCount : ℕ
-rowCount = 98
+rowCount = 134
 
 abbrev pub none : ℕ
 none = rowCount
@@ -153,15 +158,55 @@ blockH =
     row "H990" 2 1 1 ∷
     []
 
+abbrev block8 : List Listed
+block8 =
+    row "8001" 3 1 1 ∷
+    row "8020" 4 2 P ∷
+    row "8030" 11 3 anyNumber ∷
+    row "8040" 8 3 anyNumber ∷
+    row "8050" 4 3 1 ∷
+    row "8100" 4 2 P ∷
+    row "8110" 6 3 anyNumber ∷
+    row "8160" 4 2 P ∷
+    row "8165" 6 3 P ∷
+    row "8170" 7 4 anyNumber ∷
+    row "8175" 5 4 anyNumber ∷
+    row "8180" 6 5 anyNumber ∷
+    row "8300" 4 2 P ∷
+    row "8310" 10 3 anyNumber ∷
+    row "8500" 4 2 P ∷
+    row "8505" 6 3 anyNumber ∷
+    row "8510" 4 4 anyNumber ∷
+    row "8515" 2 4 anyNumber ∷
+    row "8525" 7 5 anyNumber ∷
+    row "8530" 11 3 anyNumber ∷
+    row "8535" 9 4 990 ∷
+    row "8540" 8 4 anyNumber ∷
+    row "8545" 4 3 S ∷
+    row "8550" 4 4 anyNumber ∷
+    row "8555" 4 4 anyNumber ∷
+    row "8560" 12 4 S ∷
+    row "8565" 3 5 anyNumber ∷
+    row "8570" 12 4 S ∷
+    row "8580" 10 4 S ∷
+    row "8585" 5 5 4 ∷
+    row "8590" 15 4 S ∷
+    row "8990" 2 1 1 ∷
+    []
+
 abbrev block9 : List Listed
 block9 =
     row "9001" 2 1 1 ∷
+    row "9020" 21 2 anyNumber ∷
+    row "9030" 3 3 anyNumber ∷
+    row "9040" 12 3 anyNumber ∷
+    row "9900" 3 2 anyNumber ∷
     row "9990" 2 1 1 ∷
     row "9999" 2 0 1 ∷
     []
 
 unfoldable pub rowTable : List Listed
-rowTable = block0 ++ blockC ++ blockE ++ blockF ++ blockG ++ blockH ++ block9
+rowTable = block0 ++ blockC ++ blockE ++ blockF ++ blockG ++ blockH ++ block8 ++ block9
 
 -- where the rows of each block begin, and past the last block the number of rows
 abbrev startsFrom : ℕ → List ℕ → List ℕ
@@ -177,6 +222,7 @@ blockStarts =
     length blockF ∷
     length blockG ∷
     length blockH ∷
+    length block8 ∷
     length block9 ∷
     [])
 
@@ -203,17 +249,22 @@ level r = listed r .level
 unfoldable pub occurrence : ℕ → ℕ
 occurrence r = listed r .occurrence
 
--- "P .. is read as N at level 2 and as 1 at level 3"
-unfoldable pub limit : ℕ → ℕ
-limit r = pick (eqb (occurrence r) P) (pick (eqb (level r) 2) anyNumber 1) (occurrence r)
+-- any number at the level at which the thing is opened, one beneath it
+abbrev pub onceFrom : ℕ → ℕ → ℕ
+onceFrom opened r = pick (eqb (level r) opened) anyNumber 1
 
--- "Blocks come in the order 0, C, E, F, G, H, 9": a block goes by its place in this order
+-- "P .. is read as N at level 2 and as 1 at level 3"; S likewise, one level deeper
+unfoldable pub limit : ℕ → ℕ
+limit r =
+    pick (eqb (occurrence r) P) (onceFrom 2 r) (pick (eqb (occurrence r) S) (onceFrom 3 r) (occurrence r))
+
+-- "Blocks come in the order 0, C, E, F, G, H, 9"; "Block 8 stands between H and 9": a block goes by its place in this order
 unfoldable pub blockLetters : List ℕ
-blockLetters = bytes "0CEFGH9"
+blockLetters = bytes "0CEFGH89"
 
 -- the number of blocks
 abbrev pub blocks : ℕ
-blocks = 7
+blocks = 8
 
 unfoldable pub placeOf : ℕ → List ℕ → ℕ
 placeOf x [] = 0
@@ -230,12 +281,15 @@ isOpening r = eqb (code r % 16777216) (textNumber "001")
 unfoldable pub isClosing : ℕ → Bool
 isClosing r = eqb (code r % 16777216) (textNumber "990")
 
--- the rows with a name, by their place in the table: 0000, 0001, 9990 and 9999 (named-rows, proofs/RowLaws.antt)
+-- the rows with a name, by their place in the table: 0000, 0001, 9900, 9990 and 9999 (named-rows, proofs/RowLaws.antt)
 abbrev pub row0000 : ℕ
 row0000 = 0
 
 abbrev pub row0001 : ℕ
 row0001 = 1
+
+abbrev pub row9900 : ℕ
+row9900 = rowCount - 3
 
 abbrev pub row9990 : ℕ
 row9990 = rowCount - 2

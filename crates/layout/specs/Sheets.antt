@@ -1,9 +1,10 @@
--- Appendix B, the sheets of 0000 and of the data lines: of each its code and its fields, with name and columns.
+-- Appendix B, the sheets of 0000, of 8001 and of the data lines: of each its code and its fields, with name and columns.
 use mathlib.Core.List.{List, [], _∷_, _++_}
 use Prim.Native.String.{String}
-use Rattle.layout.specs.Kind.{Kind, codeField, C, C-, N, N-, decimals, lfpd, brasil}
+use Rattle.layout.specs.Kind.{Kind, codeField, C, C-, N, N-, decimals, lineCode, lfpd, brasil}
 
--- an entry of a sheet: the field's name, and its columns tipo, tam and dec as a kind; 01's two fixed texts stand in their place
+-- an entry of a sheet: the field's name, and its columns tipo, tam and dec as a kind; 01's two fixed texts, and the code that a 9900
+-- line speaks of, stand in their place
 pub record Entry : Type 0 where
   pub name : String
   pub columns : Kind
@@ -288,5 +289,76 @@ sheetsH =
     sheet "H060" (LIN ∷ "COD_NCM" is N 8 ∷ "VL_SUB_NCM" is decimals 2 ∷ []) ∷
     []
 
+abbrev sheets8 : List Sheet
+sheets8 =
+    sheet "8001" (LIN ∷ "IND_DAD" is N 1 ∷ "UF" is C 2 ∷ []) ∷
+    sheet "8020" (LIN ∷ "IND_QVA" is N 1 ∷ "DT_INI" is N 8 ∷ "DT_FIN" is N 8 ∷ []) ∷
+    sheet "8030" (LIN ∷ "IND_TOT" is N 1 ∷ "IND_OPER" is N 1 ∷ "IND_DET" is N 1 ∷ "COD_MUN" is N 7 ∷
+    "VL_CONT_MUN" is decimals 2 ∷ "VL_OP_ISS_MUN" is decimals 2 ∷ "VL_ICMS_ST_MUN" is decimals 2 ∷
+    "VL_TE_MUN" is decimals 2 ∷ "VL_TS_MUN" is decimals 2 ∷ "VL_AD_MUN" is decimals 4 ∷ []) ∷
+    sheet "8040" (LIN ∷ "IND_CFOP" is N 1 ∷ "VL_CONT" is decimals 2 ∷ "VL_OP_ISS" is decimals 2 ∷ "CFOP" is N 4 ∷
+    "VL_ICMS_ST" is decimals 2 ∷ "VL_TE_CFOP" is decimals 2 ∷ "VL_TS_CFOP" is decimals 2 ∷ []) ∷
+    sheet "8050" (LIN ∷ "VL_TE" is decimals 2 ∷ "VL_TS" is decimals 2 ∷ "VL_AD" is decimals 4 ∷ []) ∷
+    sheet "8100" (LIN ∷ "IND_QAB" is N 1 ∷ "DT_INI" is N 8 ∷ "DT_FIN" is N 8 ∷ []) ∷
+    sheet "8110" (LIN ∷ "IND_ORIG" is N 1 ∷ "VL_EEL" is decimals 2 ∷ "VL_COM" is decimals 2 ∷ "VL_ATV" is decimals 2 ∷
+    "VL_OUT" is decimals 2 ∷ []) ∷
+    sheet "8160" (LIN ∷ "IND_QCA" is N 1 ∷ "DT_INI" is N 8 ∷ "DT_FIN" is N 8 ∷ []) ∷
+    sheet "8165" (LIN ∷ "VL_REM" is decimals 2 ∷ "VL_ACUM" is decimals 2 ∷ "VL_PU" is decimals 2 ∷
+    "VL_TUT" is decimals 2 ∷ "VL_SLD" is decimals 2 ∷ []) ∷
+    sheet "8170" (LIN ∷ "VL_CA_EX" is decimals 2 ∷ "VL_CA_OS" is decimals 2 ∷ "NUM_PROC" is C- ∷ "IND_PROC" is N 1 ∷
+    "DESCR_PROC" is C- ∷ "COMENT" is C- ∷ []) ∷
+    sheet "8175" (LIN ∷ "IND_UT" is N 1 ∷ "VL_UT" is decimals 2 ∷ "IE" is C- ∷ "COMENT" is C- ∷ []) ∷
+    sheet "8180" (LIN ∷ "IND_CD" is N 1 ∷ "VL_DEB" is decimals 2 ∷ "COD_REC" is C- ∷ "IE" is C- ∷ "COMENT" is C- ∷ []) ∷
+    sheet "8300" (LIN ∷ "IND_QCC" is N 1 ∷ "DT_INI" is N 8 ∷ "DT_FIN" is N 8 ∷ []) ∷
+    sheet "8310" (LIN ∷ "IND_CC" is N 1 ∷ "COD_CONS" is N 2 ∷ "VL_CONT" is decimals 2 ∷ "VL_OP_ISS" is decimals 2 ∷
+    "VL_ICMS_ST" is decimals 2 ∷ "VL_BC_ICMS" is decimals 2 ∷ "VL_ICMS" is decimals 2 ∷ "VL_ISNT_ICMS" is decimals 2 ∷
+    "VL_OUT_ICMS" is decimals 2 ∷ []) ∷
+    sheet "8500" (LIN ∷ "IND_GIAF" is N 1 ∷ "DT_INI" is N 8 ∷ "DT_FIN" is N 8 ∷ []) ∷
+    sheet "8505" (LIN ∷ "IND_BF" is N 1 ∷ "DE_BF" is N 5 ∷ "DT_BF" is N 8 ∷ "IND_NAT" is N- ∷ "IND_ICMS_MIN" is N 1 ∷
+    []) ∷
+    sheet "8510" (LIN ∷ "DE_BF_AJ" is N 5 ∷ "DT_BF_AJ" is N 8 ∷ "IND_NAT_AJ" is N- ∷ []) ∷
+    sheet "8515" (LIN ∷ "IND_AP" is N- ∷ []) ∷
+    sheet "8525" (LIN ∷ "COD_ITEM" is C- ∷ "DESCR_ITEM" is C- ∷ "NBMSH" is N 10 ∷ "UNID" is C- ∷
+    "PCT_BF" is decimals 2 ∷ "PRZ_BF" is N 4 ∷ []) ∷
+    sheet "8530" (LIN ∷ "IND_OPER" is N 1 ∷ "IND_EMIT" is N 1 ∷ "COD_PART" is C- ∷ "COD_MOD" is C 2 ∷ "SER" is C- ∷
+    "NUM_DOC" is N- ∷ "DT_DOC" is N 8 ∷ "VL_CONT" is decimals 2 ∷ "VL_BC_ICMS" is decimals 2 ∷
+    "VL_ICMS" is decimals 2 ∷ []) ∷
+    sheet "8535" (LIN ∷ "NUM_ITEM" is N- ∷ "COD_ITEM" is C- ∷ "CFOP" is N 4 ∷ "VL_BC_ICMS_I" is decimals 2 ∷
+    "ALIQ_ICMS" is decimals 2 ∷ "VL_ICMS_I" is decimals 2 ∷ "IND_AP" is N- ∷ "IND_ESP" is N- ∷ []) ∷
+    sheet "8540" (LIN ∷ "VL_CONT_P" is decimals 2 ∷ "CFOP" is N 4 ∷ "VL_BC_ICMS_P" is decimals 2 ∷
+    "ALIQ_ICMS" is decimals 2 ∷ "VL_ICMS_P" is decimals 2 ∷ "IND_AP" is N- ∷ "IND_ESP" is N- ∷ []) ∷
+    sheet "8545" (LIN ∷ "COD_BF_ICMS" is C 5 ∷ "IND_AP" is N- ∷ "IND_ESP" is N- ∷ []) ∷
+    sheet "8550" (LIN ∷ "VL_CONT" is decimals 2 ∷ "CFOP" is N 4 ∷ "VL_ICMS" is decimals 2 ∷ []) ∷
+    sheet "8555" (LIN ∷ "IND_INC" is N 2 ∷ "VL_CONT" is decimals 2 ∷ "VL_ICMS" is decimals 2 ∷ []) ∷
+    sheet "8560" (LIN ∷ "VL_01" is decimals 2 ∷ "VL_05" is decimals 2 ∷ "VL_06" is decimals 2 ∷
+    "VL_07" is decimals 2 ∷ "VL_08" is decimals 2 ∷ "VL_09" is decimals 2 ∷ "VL_10" is decimals 2 ∷
+    "VL_11" is decimals 2 ∷ "VL_12" is decimals 2 ∷ "VL_13" is decimals 2 ∷ "VL_14" is decimals 2 ∷ []) ∷
+    sheet "8565" (LIN ∷ "COD_AJ" is N 3 ∷ "VL_AJ" is decimals 2 ∷ []) ∷
+    sheet "8570" (LIN ∷ "G1_01" is decimals 2 ∷ "G1_02" is decimals 2 ∷ "G1_03" is decimals 2 ∷
+    "G1_04" is decimals 2 ∷ "G1_05" is decimals 2 ∷ "G1_06" is decimals 2 ∷ "G1_07" is decimals 2 ∷
+    "G1_08" is decimals 2 ∷ "G1_09" is decimals 2 ∷ "G1_10" is decimals 2 ∷ "G1_11" is decimals 2 ∷ []) ∷
+    sheet "8580" (LIN ∷ "G3_01" is decimals 2 ∷ "G3_02" is decimals 2 ∷ "G3_03" is decimals 2 ∷
+    "G3_04" is decimals 2 ∷ "G3_05" is decimals 2 ∷ "G3_06" is decimals 2 ∷ "G3_07" is decimals 2 ∷
+    "G3_08" is decimals 2 ∷ "G3_09" is decimals 2 ∷ []) ∷
+    sheet "8585" (LIN ∷ "IND_FX" is N 1 ∷ "G3_10" is decimals 2 ∷ "G3_11" is decimals 2 ∷ "G3_12" is decimals 2 ∷ []) ∷
+    sheet "8590" (LIN ∷ "G4_01" is decimals 2 ∷ "G4_02" is decimals 2 ∷ "G4_03" is decimals 2 ∷
+    "G4_04" is decimals 2 ∷ "G4_05" is decimals 2 ∷ "G4_06" is decimals 2 ∷ "G4_07" is decimals 2 ∷
+    "G4_08" is decimals 2 ∷ "G4_09" is decimals 2 ∷ "G4_10" is decimals 2 ∷ "G4_11" is decimals 2 ∷
+    "G4_12" is decimals 2 ∷ "G4_13" is decimals 2 ∷ "G4_14" is decimals 2 ∷ []) ∷
+    []
+
+abbrev sheets9 : List Sheet
+sheets9 =
+    sheet "9020" (LIN ∷ "LEIAUTE" is C 4 ∷ "ARQ_DT_INI" is N 8 ∷ "ARQ_DT_FIN" is N 8 ∷ "ARQ_NOME_EMPR" is C- ∷
+    "ARQ_CNPJ" is N 14 ∷ "ARQ_UF" is C 2 ∷ "ARQ_IE" is C 14 ∷ "ARQ_COD_MUN" is N 7 ∷ "ARQ_IM" is C- ∷ "VAZIO" is C 0 ∷
+    "ARQ_SUFRAMA" is C 9 ∷ "ARQ_COD_VER" is N 4 ∷ "ARQ_COD_FIN" is N 1 ∷ "ARQ_COD_CTD" is N 2 ∷ "ARQ_PAIS" is C 6 ∷
+    "ARQ_CPF" is N 11 ∷ "ARQ_FANTASIA" is C- ∷ "ARQ_QTD_LIN" is N- ∷ "ARQ_NOME" is C- ∷ "ASS_HASH" is C 128 ∷ []) ∷
+    sheet "9030" (LIN ∷ "ARQ_LIN_BLC" is C 4 ∷ "ARQ_QTD_LIN_BLC" is N- ∷ []) ∷
+    sheet "9040" (LIN ∷ "ARQ_CERT_AC" is C- ∷ "ARQ_CERT_SER" is C- ∷ "ARQ_CERT_EXP_DT" is N 8 ∷
+    "ARQ_CERT_EXP_HR" is N 8 ∷ "ARQ_ALG" is C- ∷ "ARQ_DT" is N 8 ∷ "ARQ_HR" is N 8 ∷ "ARQ_SIGN" is C- ∷
+    "COD_ASSIN" is N 3 ∷ "ARQ_CERT" is C 65536 ∷ "ARQ_ASS" is C 65536 ∷ []) ∷
+    sheet "9900" (LIN ∷ "LIN_BLC" is lineCode ∷ "QTD_LIN_BLC" is N- ∷ []) ∷
+    []
+
 unfoldable pub sheets : List Sheet
-sheets = sheets0 ++ sheetsC ++ sheetsE ++ sheetsF ++ sheetsG ++ sheetsH
+sheets = sheets0 ++ sheetsC ++ sheetsE ++ sheetsF ++ sheetsG ++ sheetsH ++ sheets8 ++ sheets9

@@ -1,4 +1,4 @@
-// The kind of each of the 995 fields, one number a field, row after row; and where each row's kinds start.
+// The kind of each field, one number a field, row after row; and where each row's kinds start.
 ghost use Prim.Native.Nat.{_<_, _≤_};
 ghost use mathlib.Core.Path.{_≡_};
 ghost use Rattle.layout.specs.Packed.{kindNumber, packedKinds, startColumn};
@@ -7,7 +7,7 @@ ghost use Rattle.layout.specs.Rows.{rowCount, fields};
 use super::rows::ENTRIES;
 
 // The number of fields of all rows.
-pub const FIELDS: usize = 995;
+pub const FIELDS: usize = 1238;
 
 // A kind's number is its class plus SIZE_UNIT times its size; where nothing is asked of the size, that is 0.
 pub const SIZE_UNIT: u32 = 16;
@@ -21,41 +21,47 @@ pub const KIND_MOST: u64 = SIZE_UNIT as u64 * (SIZE_MOST + 1) - 1;
 // No field: it stands past a row's last one.
 pub const NO_FIELD: u32 = 0;
 
-// The classes; those of plain numbers stand before the others of numbers, and `field` relies on it. Field 1 of every line.
+// The classes. `field` relies on their order: codes stand before texts, and plain numbers before the others of numbers. Field 1 of
+// every line.
 pub const CLASS_CODE: u32 = 1;
 
+// The code that a 9900 line speaks of.
+pub const CLASS_LINE_CODE: u32 = 2;
+
 // C: at most so many bytes.
-pub const CLASS_C: u32 = 2;
+pub const CLASS_C: u32 = 3;
 
 // N: digits, exactly so many; and N without a size.
-const CLASS_N: u32 = 3;
+const CLASS_N: u32 = 4;
 
-pub const CLASS_N_ANY: u32 = 4;
+pub const CLASS_N_ANY: u32 = 5;
 
 // N with decimals: its size is their number.
-pub const CLASS_DECIMALS: u32 = 5;
+pub const CLASS_DECIMALS: u32 = 6;
 
 // A date ddmmyyyy.
-pub const CLASS_DATE: u32 = 6;
+pub const CLASS_DATE: u32 = 7;
 
 // The fixed texts.
-pub const CLASS_LFPD: u32 = 7;
+pub const CLASS_LFPD: u32 = 8;
 
-pub const CLASS_BRASIL: u32 = 8;
+pub const CLASS_BRASIL: u32 = 9;
 
 // Field 2 of an opening.
-pub const CLASS_OPENS: u32 = 9;
+pub const CLASS_OPENS: u32 = 10;
 
 // Field 2 of a closing and of 9999.
-pub const CLASS_COUNT: u32 = 10;
+pub const CLASS_COUNT: u32 = 11;
 
 // Digits with check digits: a CNPJ, a CPF.
-pub const CLASS_CNPJ: u32 = 11;
+pub const CLASS_CNPJ: u32 = 12;
 
-pub const CLASS_CPF: u32 = 12;
+pub const CLASS_CPF: u32 = 13;
 
 // The kinds of the table below.
 const CODE: u32 = CLASS_CODE;
+
+const LINE_CODE: u32 = CLASS_LINE_CODE + SIZE_UNIT * 4;
 
 const C0: u32 = CLASS_C + SIZE_UNIT * 0;
 
@@ -67,13 +73,19 @@ const C4: u32 = CLASS_C + SIZE_UNIT * 4;
 
 const C5: u32 = CLASS_C + SIZE_UNIT * 5;
 
+const C6: u32 = CLASS_C + SIZE_UNIT * 6;
+
 const C9: u32 = CLASS_C + SIZE_UNIT * 9;
 
 const C10: u32 = CLASS_C + SIZE_UNIT * 10;
 
+const C14: u32 = CLASS_C + SIZE_UNIT * 14;
+
 const C20: u32 = CLASS_C + SIZE_UNIT * 20;
 
 const C45: u32 = CLASS_C + SIZE_UNIT * 45;
+
+const C128: u32 = CLASS_C + SIZE_UNIT * 128;
 
 const C255: u32 = CLASS_C + SIZE_UNIT * 255;
 
@@ -95,6 +107,8 @@ const N7: u32 = CLASS_N + SIZE_UNIT * 7;
 
 const N8: u32 = CLASS_N + SIZE_UNIT * 8;
 
+const N10: u32 = CLASS_N + SIZE_UNIT * 10;
+
 const N11: u32 = CLASS_N + SIZE_UNIT * 11;
 
 const N14: u32 = CLASS_N + SIZE_UNIT * 14;
@@ -104,6 +118,8 @@ const N_ANY: u32 = CLASS_N_ANY;
 const DECIMALS_2: u32 = CLASS_DECIMALS + SIZE_UNIT * 2;
 
 const DECIMALS_3: u32 = CLASS_DECIMALS + SIZE_UNIT * 3;
+
+const DECIMALS_4: u32 = CLASS_DECIMALS + SIZE_UNIT * 4;
 
 const DECIMALS_6: u32 = CLASS_DECIMALS + SIZE_UNIT * 6;
 
@@ -239,9 +255,45 @@ const STARTS: [usize; ENTRIES] = [
     981, // H050
     984, // H060
     987, // H990
-    989, // 9001
-    991, // 9990
-    993, // 9999
+    989, // 8001
+    992, // 8020
+    996, // 8030
+    1007, // 8040
+    1015, // 8050
+    1019, // 8100
+    1023, // 8110
+    1029, // 8160
+    1033, // 8165
+    1039, // 8170
+    1046, // 8175
+    1051, // 8180
+    1057, // 8300
+    1061, // 8310
+    1071, // 8500
+    1075, // 8505
+    1081, // 8510
+    1085, // 8515
+    1087, // 8525
+    1094, // 8530
+    1105, // 8535
+    1114, // 8540
+    1122, // 8545
+    1126, // 8550
+    1130, // 8555
+    1134, // 8560
+    1146, // 8565
+    1149, // 8570
+    1161, // 8580
+    1171, // 8585
+    1176, // 8590
+    1191, // 8990
+    1193, // 9001
+    1195, // 9020
+    1216, // 9030
+    1219, // 9040
+    1231, // 9900
+    1234, // 9990
+    1236, // 9999
     FIELDS, // no row
 ];
 
@@ -1330,9 +1382,288 @@ const TABLE: [u32; FIELDS] = [
     // H990
     CODE,
     COUNT, // QTD_LIN_H
+    // 8001
+    CODE,
+    OPENS, // IND_DAD
+    C2, // UF
+    // 8020
+    CODE,
+    N1, // IND_QVA
+    DATE, // DT_INI
+    DATE, // DT_FIN
+    // 8030
+    CODE,
+    N1, // IND_TOT
+    N1, // IND_OPER
+    N1, // IND_DET
+    N7, // COD_MUN
+    DECIMALS_2, // VL_CONT_MUN
+    DECIMALS_2, // VL_OP_ISS_MUN
+    DECIMALS_2, // VL_ICMS_ST_MUN
+    DECIMALS_2, // VL_TE_MUN
+    DECIMALS_2, // VL_TS_MUN
+    DECIMALS_4, // VL_AD_MUN
+    // 8040
+    CODE,
+    N1, // IND_CFOP
+    DECIMALS_2, // VL_CONT
+    DECIMALS_2, // VL_OP_ISS
+    N4, // CFOP
+    DECIMALS_2, // VL_ICMS_ST
+    DECIMALS_2, // VL_TE_CFOP
+    DECIMALS_2, // VL_TS_CFOP
+    // 8050
+    CODE,
+    DECIMALS_2, // VL_TE
+    DECIMALS_2, // VL_TS
+    DECIMALS_4, // VL_AD
+    // 8100
+    CODE,
+    N1, // IND_QAB
+    DATE, // DT_INI
+    DATE, // DT_FIN
+    // 8110
+    CODE,
+    N1, // IND_ORIG
+    DECIMALS_2, // VL_EEL
+    DECIMALS_2, // VL_COM
+    DECIMALS_2, // VL_ATV
+    DECIMALS_2, // VL_OUT
+    // 8160
+    CODE,
+    N1, // IND_QCA
+    DATE, // DT_INI
+    DATE, // DT_FIN
+    // 8165
+    CODE,
+    DECIMALS_2, // VL_REM
+    DECIMALS_2, // VL_ACUM
+    DECIMALS_2, // VL_PU
+    DECIMALS_2, // VL_TUT
+    DECIMALS_2, // VL_SLD
+    // 8170
+    CODE,
+    DECIMALS_2, // VL_CA_EX
+    DECIMALS_2, // VL_CA_OS
+    C255, // NUM_PROC
+    N1, // IND_PROC
+    C255, // DESCR_PROC
+    C255, // COMENT
+    // 8175
+    CODE,
+    N1, // IND_UT
+    DECIMALS_2, // VL_UT
+    C255, // IE
+    C255, // COMENT
+    // 8180
+    CODE,
+    N1, // IND_CD
+    DECIMALS_2, // VL_DEB
+    C255, // COD_REC
+    C255, // IE
+    C255, // COMENT
+    // 8300
+    CODE,
+    N1, // IND_QCC
+    DATE, // DT_INI
+    DATE, // DT_FIN
+    // 8310
+    CODE,
+    N1, // IND_CC
+    N2, // COD_CONS
+    DECIMALS_2, // VL_CONT
+    DECIMALS_2, // VL_OP_ISS
+    DECIMALS_2, // VL_ICMS_ST
+    DECIMALS_2, // VL_BC_ICMS
+    DECIMALS_2, // VL_ICMS
+    DECIMALS_2, // VL_ISNT_ICMS
+    DECIMALS_2, // VL_OUT_ICMS
+    // 8500
+    CODE,
+    N1, // IND_GIAF
+    DATE, // DT_INI
+    DATE, // DT_FIN
+    // 8505
+    CODE,
+    N1, // IND_BF
+    N5, // DE_BF
+    DATE, // DT_BF
+    N_ANY, // IND_NAT
+    N1, // IND_ICMS_MIN
+    // 8510
+    CODE,
+    N5, // DE_BF_AJ
+    DATE, // DT_BF_AJ
+    N_ANY, // IND_NAT_AJ
+    // 8515
+    CODE,
+    N_ANY, // IND_AP
+    // 8525
+    CODE,
+    C255, // COD_ITEM
+    C255, // DESCR_ITEM
+    N10, // NBMSH
+    C255, // UNID
+    DECIMALS_2, // PCT_BF
+    N4, // PRZ_BF
+    // 8530
+    CODE,
+    N1, // IND_OPER
+    N1, // IND_EMIT
+    C255, // COD_PART
+    C2, // COD_MOD
+    C255, // SER
+    N_ANY, // NUM_DOC
+    DATE, // DT_DOC
+    DECIMALS_2, // VL_CONT
+    DECIMALS_2, // VL_BC_ICMS
+    DECIMALS_2, // VL_ICMS
+    // 8535
+    CODE,
+    N_ANY, // NUM_ITEM
+    C255, // COD_ITEM
+    N4, // CFOP
+    DECIMALS_2, // VL_BC_ICMS_I
+    DECIMALS_2, // ALIQ_ICMS
+    DECIMALS_2, // VL_ICMS_I
+    N_ANY, // IND_AP
+    N_ANY, // IND_ESP
+    // 8540
+    CODE,
+    DECIMALS_2, // VL_CONT_P
+    N4, // CFOP
+    DECIMALS_2, // VL_BC_ICMS_P
+    DECIMALS_2, // ALIQ_ICMS
+    DECIMALS_2, // VL_ICMS_P
+    N_ANY, // IND_AP
+    N_ANY, // IND_ESP
+    // 8545
+    CODE,
+    C5, // COD_BF_ICMS
+    N_ANY, // IND_AP
+    N_ANY, // IND_ESP
+    // 8550
+    CODE,
+    DECIMALS_2, // VL_CONT
+    N4, // CFOP
+    DECIMALS_2, // VL_ICMS
+    // 8555
+    CODE,
+    N2, // IND_INC
+    DECIMALS_2, // VL_CONT
+    DECIMALS_2, // VL_ICMS
+    // 8560
+    CODE,
+    DECIMALS_2, // VL_01
+    DECIMALS_2, // VL_05
+    DECIMALS_2, // VL_06
+    DECIMALS_2, // VL_07
+    DECIMALS_2, // VL_08
+    DECIMALS_2, // VL_09
+    DECIMALS_2, // VL_10
+    DECIMALS_2, // VL_11
+    DECIMALS_2, // VL_12
+    DECIMALS_2, // VL_13
+    DECIMALS_2, // VL_14
+    // 8565
+    CODE,
+    N3, // COD_AJ
+    DECIMALS_2, // VL_AJ
+    // 8570
+    CODE,
+    DECIMALS_2, // G1_01
+    DECIMALS_2, // G1_02
+    DECIMALS_2, // G1_03
+    DECIMALS_2, // G1_04
+    DECIMALS_2, // G1_05
+    DECIMALS_2, // G1_06
+    DECIMALS_2, // G1_07
+    DECIMALS_2, // G1_08
+    DECIMALS_2, // G1_09
+    DECIMALS_2, // G1_10
+    DECIMALS_2, // G1_11
+    // 8580
+    CODE,
+    DECIMALS_2, // G3_01
+    DECIMALS_2, // G3_02
+    DECIMALS_2, // G3_03
+    DECIMALS_2, // G3_04
+    DECIMALS_2, // G3_05
+    DECIMALS_2, // G3_06
+    DECIMALS_2, // G3_07
+    DECIMALS_2, // G3_08
+    DECIMALS_2, // G3_09
+    // 8585
+    CODE,
+    N1, // IND_FX
+    DECIMALS_2, // G3_10
+    DECIMALS_2, // G3_11
+    DECIMALS_2, // G3_12
+    // 8590
+    CODE,
+    DECIMALS_2, // G4_01
+    DECIMALS_2, // G4_02
+    DECIMALS_2, // G4_03
+    DECIMALS_2, // G4_04
+    DECIMALS_2, // G4_05
+    DECIMALS_2, // G4_06
+    DECIMALS_2, // G4_07
+    DECIMALS_2, // G4_08
+    DECIMALS_2, // G4_09
+    DECIMALS_2, // G4_10
+    DECIMALS_2, // G4_11
+    DECIMALS_2, // G4_12
+    DECIMALS_2, // G4_13
+    DECIMALS_2, // G4_14
+    // 8990
+    CODE,
+    COUNT, // QTD_LIN_8
     // 9001
     CODE,
     OPENS, // IND_DAD
+    // 9020
+    CODE,
+    C4, // LEIAUTE
+    N8, // ARQ_DT_INI
+    N8, // ARQ_DT_FIN
+    C255, // ARQ_NOME_EMPR
+    N14, // ARQ_CNPJ
+    C2, // ARQ_UF
+    C14, // ARQ_IE
+    N7, // ARQ_COD_MUN
+    C255, // ARQ_IM
+    C0, // VAZIO
+    C9, // ARQ_SUFRAMA
+    N4, // ARQ_COD_VER
+    N1, // ARQ_COD_FIN
+    N2, // ARQ_COD_CTD
+    C6, // ARQ_PAIS
+    N11, // ARQ_CPF
+    C255, // ARQ_FANTASIA
+    N_ANY, // ARQ_QTD_LIN
+    C255, // ARQ_NOME
+    C128, // ASS_HASH
+    // 9030
+    CODE,
+    C4, // ARQ_LIN_BLC
+    N_ANY, // ARQ_QTD_LIN_BLC
+    // 9040
+    CODE,
+    C255, // ARQ_CERT_AC
+    C255, // ARQ_CERT_SER
+    N8, // ARQ_CERT_EXP_DT
+    N8, // ARQ_CERT_EXP_HR
+    C255, // ARQ_ALG
+    N8, // ARQ_DT
+    N8, // ARQ_HR
+    C255, // ARQ_SIGN
+    N3, // COD_ASSIN
+    C65536, // ARQ_CERT
+    C65536, // ARQ_ASS
+    // 9900
+    CODE,
+    LINE_CODE, // LIN_BLC
+    N_ANY, // QTD_LIN_BLC
     // 9990
     CODE,
     COUNT, // QTD_LIN_9

@@ -28,7 +28,7 @@ pub fn is_closing(rows: &[[u64; 4]; ENTRIES], r: usize) -> bool
     rows::code_at(rows, r) % BLOCK == CLOSING
 }
 
-// The place of a block in the order 0, C, E, F, G, H, 9; 7 for no block.
+// The place of a block in the order 0, C, E, F, G, H, 8, 9; 8 for no block.
 fn place_of(letter: u64) -> u64
     ensures { λ p. ⌜ p ≡ placeOf letter blockLetters ⌝ }
 {
@@ -39,8 +39,9 @@ fn place_of(letter: u64) -> u64
         0x46 => 3,
         0x47 => 4,
         0x48 => 5,
-        0x39 => 6,
-        _ => 7,
+        0x38 => 6,
+        0x39 => 7,
+        _ => 8,
     }
 }
 

@@ -1,11 +1,11 @@
-// The 98 rows of the layout in document 01's order, four numbers a row: its code, fields, level and occurrence.
+// The rows of the layout in document 01's order, four numbers a row: its code, fields, level and occurrence.
 ghost use Prim.Native.Nat.{_≤_};
 ghost use mathlib.Core.Path.{_≡_};
 ghost use Rattle.layout.specs.Packed.{rowNumbers};
-ghost use Rattle.layout.specs.Rows.{rowCount, code, fields, level, occurrence, limit};
+ghost use Rattle.layout.specs.Rows.{rowCount, code, fields, level, occurrence, onceFrom, limit};
 
 // The number of rows. As the number of a row it stands for "no row".
-pub const ROWS: usize = 98;
+pub const ROWS: usize = 134;
 
 // The table has an entry for "no row" too, so that every row number is an index.
 pub const ENTRIES: usize = ROWS + 1;
@@ -18,6 +18,14 @@ pub const ANY: u64 = 0;
 
 // Occurrence P: one for each period or date.
 const PERIOD: u64 = 1000;
+
+// The level at which a period is opened.
+const PERIOD_LEVEL: u64 = 2;
+
+// Occurrence "1/sub-apuração": one for each of them, and the level at which one is opened.
+const SUBPERIOD: u64 = 1001;
+
+const SUBPERIOD_LEVEL: u64 = 3;
 
 // Where each number of a row stands.
 const CODE_COLUMN: usize = 0;
@@ -63,16 +71,27 @@ fn occurrence_at(rows: &[[u64; 4]; ENTRIES], r: usize) -> u64
     rows[r][OCCURRENCE_COLUMN]
 }
 
-// How many lines of the row may stand under one parent line: P is read as N at level 2 and else as 1.
+// Any number of lines at the level at which the thing is opened, one beneath it.
+fn once_from(rows: &[[u64; 4]; ENTRIES], opened: u64, r: usize) -> u64
+    requires { ⌜ (now rows ≡ rowNumbers) × (r ≤ rowCount) ⌝ }
+    ensures { λ n. ⌜ n ≡ onceFrom opened r ⌝ }
+{
+    if level_at(rows, r) == opened { ANY } else { 1 }
+}
+
+// How many lines of the row may stand under one parent line.
 pub fn limit_at(rows: &[[u64; 4]; ENTRIES], r: usize) -> u64
     requires { ⌜ (now rows ≡ rowNumbers) × (r ≤ rowCount) ⌝ }
     ensures { λ n. ⌜ n ≡ limit r ⌝ }
 {
     let occurrence = occurrence_at(rows, r);
-    if occurrence != PERIOD {
-        return occurrence;
+    if occurrence == PERIOD {
+        return once_from(rows, PERIOD_LEVEL, r);
     }
-    if level_at(rows, r) == 2 { ANY } else { 1 }
+    if occurrence == SUBPERIOD {
+        return once_from(rows, SUBPERIOD_LEVEL, r);
+    }
+    occurrence
 }
 
 // Code, fields, level, occurrence. A code is its four bytes as one number, the first byte highest.
@@ -172,7 +191,43 @@ const TABLE: [[u64; 4]; ENTRIES] = [
     [0x48303530, 3, 3, ANY], // H050
     [0x48303630, 3, 3, ANY], // H060
     [0x48393930, 2, 1, 1], // H990
+    [0x38303031, 3, 1, 1], // 8001
+    [0x38303230, 4, 2, PERIOD], // 8020
+    [0x38303330, 11, 3, ANY], // 8030
+    [0x38303430, 8, 3, ANY], // 8040
+    [0x38303530, 4, 3, 1], // 8050
+    [0x38313030, 4, 2, PERIOD], // 8100
+    [0x38313130, 6, 3, ANY], // 8110
+    [0x38313630, 4, 2, PERIOD], // 8160
+    [0x38313635, 6, 3, PERIOD], // 8165
+    [0x38313730, 7, 4, ANY], // 8170
+    [0x38313735, 5, 4, ANY], // 8175
+    [0x38313830, 6, 5, ANY], // 8180
+    [0x38333030, 4, 2, PERIOD], // 8300
+    [0x38333130, 10, 3, ANY], // 8310
+    [0x38353030, 4, 2, PERIOD], // 8500
+    [0x38353035, 6, 3, ANY], // 8505
+    [0x38353130, 4, 4, ANY], // 8510
+    [0x38353135, 2, 4, ANY], // 8515
+    [0x38353235, 7, 5, ANY], // 8525
+    [0x38353330, 11, 3, ANY], // 8530
+    [0x38353335, 9, 4, 990], // 8535
+    [0x38353430, 8, 4, ANY], // 8540
+    [0x38353435, 4, 3, SUBPERIOD], // 8545
+    [0x38353530, 4, 4, ANY], // 8550
+    [0x38353535, 4, 4, ANY], // 8555
+    [0x38353630, 12, 4, SUBPERIOD], // 8560
+    [0x38353635, 3, 5, ANY], // 8565
+    [0x38353730, 12, 4, SUBPERIOD], // 8570
+    [0x38353830, 10, 4, SUBPERIOD], // 8580
+    [0x38353835, 5, 5, 4], // 8585
+    [0x38353930, 15, 4, SUBPERIOD], // 8590
+    [0x38393930, 2, 1, 1], // 8990
     [0x39303031, 2, 1, 1], // 9001
+    [0x39303230, 21, 2, ANY], // 9020
+    [0x39303330, 3, 3, ANY], // 9030
+    [0x39303430, 12, 3, ANY], // 9040
+    [0x39393030, 3, 2, ANY], // 9900
     [0x39393930, 2, 1, 1], // 9990
     [0x39393939, 2, 0, 1], // 9999
     [0, 1, 0, ANY], // no row: only field 1 may still come

@@ -4,12 +4,22 @@ use Rattle.layout.specs.Rows.{placeOf, blockLetters}
 use Rattle.layout.proofs.roles.place_of.Statement.{statement}
 use Rattle.layout.proofs.roles.place_of.Tie as tie
 
--- the letter is none of the seven
-returns-8 : tie.Need-returns-8
+-- the letter is no block's
+returns-9 : tie.Need-returns-9
 unfolding placeOf blockLetters bytes
-returns-8 c =
+returns-9 c =
     let no = c .match .rest in
-    simp (ne-eqb, no .1, no .0 .1, no .0 .0 .1, no .0 .0 .0 .1, no .0 .0 .0 .0 .1, no .0 .0 .0 .0 .0 .1, no .0 .0 .0 .0 .0 .0 .1)
+    simp (
+      ne-eqb,
+      no .1,
+      no .0 .1,
+      no .0 .0 .1,
+      no .0 .0 .0 .1,
+      no .0 .0 .0 .0 .1,
+      no .0 .0 .0 .0 .0 .1,
+      no .0 .0 .0 .0 .0 .0 .1,
+      no .0 .0 .0 .0 .0 .0 .0 .1,
+    )
 
 pub place-of-spec : {M : Type 1} → statement M
 unfolding placeOf blockLetters bytes
@@ -23,4 +33,5 @@ place-of-spec =
     (λ c. rw (c .match .keys5))
     (λ c. rw (c .match .keys6))
     (λ c. rw (c .match .keys7))
-    returns-8)
+    (λ c. rw (c .match .keys8))
+    returns-9)
