@@ -10,8 +10,8 @@ use lib.ListN.{length}
 use borrow.Author.Tests.{ne-eqb, eqb-true, eqb-false, lt-leb, le-ltb, lt-ltb, leb-true, leb-false}
 use Rattle.layout.specs.Pick.{pick}
 use Rattle.layout.specs.Text.{bytes}
-use Rattle.layout.specs.Kind.{Kind, codeField, C, N, N-, decimals, date, cnpj, cpf, lfpd, brasil, opens, count, noField}
-use Rattle.layout.specs.Packed.{kindNumber, sizeUnit, cClass, nClass, nAnyClass, decimalsClass}
+use Rattle.layout.specs.Kind.{Kind, codeField, lineCode, C, N, N-, decimals, date, cnpj, cpf, lfpd, brasil, opens, count, noField}
+use Rattle.layout.specs.Packed.{kindNumber, sizeUnit, lineCodeClass, cClass, nClass, nAnyClass, decimalsClass}
 use Rattle.layout.specs.Packed.{dateClass, cnpjClass, cpfClass, lfpdClass, brasilClass, opensClass, countClass}
 use Rattle.rules.specs.Bytes.{empty}
 use Rattle.rules.specs.Fields.{isDigit, allDigits, value, isDecimal, isDate, sameBytes, isText, formOf, states}
@@ -43,7 +43,7 @@ size-of : (c n : ℕ) → c < sizeUnit → (c + sizeUnit * n) / sizeUnit ≡ n
 size-of c n h = add-mul-div-left c n {y = sizeUnit} (omega arith) ∙ ap (λ k. k + n) (div-eq-of-lt h) ∙ omega arith
 
 fault-at : (c n : ℕ) (f : Field) (due : ℕ) → c < sizeUnit
-    → faultOf (c + sizeUnit * n) f due ≡ pick (ltb c cClass) 0 (pick (isTextClass c) (textFault c n f) (numberFault c n f due))
+    → faultOf (c + sizeUnit * n) f due ≡ pick (ltb c lineCodeClass) 0 (pick (isTextClass c) (textFault c n f) (numberFault c n f due))
 unfolding faultOf
 fault-at c n f due h = rw (class-of c n h, size-of c n h)
 
@@ -66,14 +66,25 @@ no-field-bar due (b ∷ w) = refl
 over : (s n : ℕ) → ltb s n ≡ not (leb n s)
 over s n = split (leb n s) (λ t. rw t (le-ltb s n (leb-true n s t))) (λ t. rw t (lt-ltb s n (leb-false n s t)))
 
-C-bar : (s due : ℕ) (w : List ℕ) → Agrees (C s) due w
-unfolding kindNumber isTextClass textFault fieldAfter ruled formOf empty
-C-bar s due [] = fault-at cClass s (fieldAfter (kindNumber (C s)) []) due (omega arith) ∙ rw (le-ltb s 0 (omega arith))
-C-bar s due (b ∷ w) =
-    fault-at cClass s (fieldAfter (kindNumber (C s)) (b ∷ w)) due (omega arith)
-    ∙ ap (λ n. pick (ltb s n) 11 0) (length-is (kindNumber (C s)) (b ∷ w)) ∙ ap (λ t. pick t 11 0) (over s (suc (length w)))
+-- of a text, and of the code that a 9900 line speaks of, the size
+module _ (c s due : ℕ) (asked : ltb c lineCodeClass ≡ false) (plain : leb c cClass ≡ true) where
+  sized-bar : c < sizeUnit → (w : List ℕ)
+      → faultOf (c + sizeUnit * s) (fieldAfter (c + sizeUnit * s) w) due ≡ ruled (formOf (C s)) due w
+  unfolding isTextClass textFault fieldAfter ruled formOf empty
+  sized-bar h [] = fault-at c s (fieldAfter (c + sizeUnit * s) []) due h ∙ rw (asked, plain, le-ltb s 0 (omega arith))
+  sized-bar h (b ∷ w) =
+      fault-at c s (fieldAfter (c + sizeUnit * s) (b ∷ w)) due h
+      ∙ rw (asked, plain, length-is (c + sizeUnit * s) (b ∷ w), over s (suc (length w)))
 
-text-bar : (kind c : ℕ) (text : List ℕ) → ((f : Field) (b : ℕ) → withByte kind f b ≡ textWith text f b) → eqb c cClass ≡ false
+C-bar : (s due : ℕ) (w : List ℕ) → Agrees (C s) due w
+unfolding kindNumber
+C-bar s due w = sized-bar cClass s due refl refl (omega arith) w
+
+line-code-bar : (due : ℕ) (w : List ℕ) → Agrees lineCode due w
+unfolding kindNumber formOf
+line-code-bar due w = sized-bar lineCodeClass 4 due refl refl (omega arith) w
+
+text-bar : (kind c : ℕ) (text : List ℕ) → ((f : Field) (b : ℕ) → withByte kind f b ≡ textWith text f b) → leb c cClass ≡ false
     → (w : List ℕ) → textFault c (length text) (fieldAfter kind w)
     ≡ pick (not (leb (length w) (length text))) 11 (pick (not (sameBytes w (reverse text))) 12 0)
 unfolding textFault
@@ -233,6 +244,7 @@ pub fault-is : (k : Kind) (due : ℕ) (w : List ℕ) → due < cap
     → faultOf (kindNumber k) (fieldAfter (kindNumber k) w) due ≡ ruled (formOf k) due w
 fault-is codeField due w h = code-bar due w
 fault-is (C s) due w h = C-bar s due w
+fault-is lineCode due w h = line-code-bar due w
 fault-is (N s) due w h = N-bar s due w
 fault-is N- due w h = N--bar due w
 fault-is (decimals d) due w h = decimals-bar d due w
@@ -251,6 +263,7 @@ pub position-is : (k : Kind) (w : List ℕ) → formOf k .characters w ≡ false
 unfolding formOf withByte kindNumber
 position-is codeField w e = both refl e
 position-is (C s) w e = both refl e
+position-is lineCode w e = both refl e
 position-is (N s) w e = digits-position (kindNumber (N s)) (N-on s) (formOf (N s)) (λ w. refl) w
 position-is N- w e = digits-position (kindNumber N-) (λ f b. refl) (formOf N-) (λ w. refl) w
 position-is (decimals d) w e = decimals-position (kindNumber (decimals d)) d (decimals-on d) w

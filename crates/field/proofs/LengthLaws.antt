@@ -1,4 +1,4 @@
--- At every kind number: how long the field is, and its ranges. Of field 1: its code.
+-- At every kind number: how long the field is, and its ranges. Of field 1, and of the code that a 9900 line speaks of: the code.
 use mathlib.Core.Path.{_≡_, _∙_, refl, ap}
 use mathlib.Core.Bool.{Bool, true, false}
 use mathlib.Core.List.{List, [], _∷_}
@@ -6,12 +6,12 @@ use Prim.Native.Nat.{ℕ, suc, _+_, _*_, _/_, _%_, _<_, _≤_}
 use native.Mathlib.Nat.{mod-lt}
 use native.Mathlib.Numerals.{add-one}
 use native.Mathlib.Omega.{arith}
-use lib.Dec.{eqb}
+use lib.Dec.{eqb, ltb}
 use lib.ListN.{length}
 use Rattle.layout.specs.Pick.{pick}
 use Rattle.layout.specs.Text.{codeNumber}
-use Rattle.layout.specs.Kind.{codeField}
-use Rattle.layout.specs.Packed.{kindNumber, codeClass, cClass, decimalsClass, sizeUnit, mostKind}
+use Rattle.layout.specs.Kind.{codeField, lineCode}
+use Rattle.layout.specs.Packed.{kindNumber, cClass, decimalsClass, sizeUnit, mostKind}
 use Rattle.rules.specs.Fields.{isDigit}
 use Rattle.rules.specs.Rules.{byteLimit}
 use Rattle.field.specs.declared.bytes.Field.{Field}
@@ -37,7 +37,7 @@ module _ (P : Field → Type 0) (kind : ℕ) (f : Field) (b : ℕ) where
   by-class plain code decimal text digit =
       let class = kind % sizeUnit in
       either P (eqb class cClass) plain
-      (either P (eqb class codeClass) code
+      (either P (ltb class cClass) code
       (either P (eqb class decimalsClass) decimal
       (either P (isFixedClass class) (text (fixedText class)) digit)))
 
@@ -53,10 +53,20 @@ length-is kind [] = refl
 length-is kind (b ∷ w) =
     one-longer kind (fieldAfter kind w) b ∙ add-one (fieldAfter kind w .length) ∙ ap suc (length-is kind w)
 
+module _ (kind : ℕ) (on : (f : Field) (b : ℕ) → withByte kind f b ≡ codeWith f b) where
+  code-value : (w : List ℕ) → fieldAfter kind w .value ≡ codeNumber w
+  unfolding fieldAfter codeNumber
+  code-value [] = refl
+  code-value (b ∷ w) =
+      ap (λ f. f .value) (on (fieldAfter kind w) b) ∙ ap (λ v. v % 16777216 * 256 + b) (code-value w)
+
 pub code-is : (w : List ℕ) → fieldAfter (kindNumber codeField) w .value ≡ codeNumber w
-unfolding fieldAfter withByte kindNumber codeNumber
-code-is [] = refl
-code-is (b ∷ w) = ap (λ v. v % 16777216 * 256 + b) (code-is w)
+unfolding withByte kindNumber
+code-is = code-value (kindNumber codeField) (λ f b. refl)
+
+pub line-code-is : (w : List ℕ) → fieldAfter (kindNumber lineCode) w .value ≡ codeNumber w
+unfolding withByte kindNumber
+line-code-is = code-value (kindNumber lineCode) (λ f b. refl)
 
 -- one more byte keeps a field within its ranges
 fit-longer : (f : Field) → f .length ≤ byteLimit → (wrong value : ℕ) → wrong ≤ f .length + 1 → value ≤ cap

@@ -6,8 +6,8 @@ use lib.Dec.{eqb, leb, ltb}
 use lib.ListN.{getD}
 use Rattle.layout.specs.Pick.{pick}
 use Rattle.layout.specs.Text.{bytes}
-use Rattle.layout.specs.Packed.{brasilClass, cClass, cnpjClass, codeClass, countClass, cpfClass, dateClass, decimalsClass}
-use Rattle.layout.specs.Packed.{lfpdClass, nAnyClass, opensClass, sizeUnit}
+use Rattle.layout.specs.Packed.{brasilClass, cClass, cnpjClass, countClass, cpfClass, dateClass, decimalsClass}
+use Rattle.layout.specs.Packed.{lfpdClass, lineCodeClass, nAnyClass, opensClass, sizeUnit}
 use Rattle.rules.specs.Fields.{isDigit, isDate, comma}
 use Rattle.rules.specs.Rules.{byteLimit}
 use Rattle.field.specs.declared.bytes.Field.{Field}
@@ -28,7 +28,7 @@ pub record FieldFit (f : Field) : Type 0 where
 abbrev pub emptyField : Field
 emptyField = record { length = 0; wrong = 0; value = 0 }
 
--- one more byte: of any field, of field 1, of digits, of a fixed text, of a number with decimals
+-- one more byte: of any field, of a code, of digits, of a fixed text, of a number with decimals
 abbrev pub longer : Field → ℕ → ℕ → Field
 longer f wrong value = record { length = f .length + 1; wrong = wrong; value = value }
 
@@ -74,12 +74,12 @@ isFixedClass class = eqb class lfpdClass || eqb class brasilClass
 abbrev pub fixedText : ℕ → List ℕ
 fixedText class = pick (eqb class lfpdClass) (bytes "LFPD") (bytes "Brasil")
 
--- of a text only the length is asked
+-- of a text only the length is asked; what stands before the texts are codes, and what is no field
 unfoldable pub withByte : ℕ → Field → ℕ → Field
 withByte kind f b =
     let class = kind % sizeUnit in
     pick (eqb class cClass) (longer f (f .wrong) (f .value))
-    (pick (eqb class codeClass) (codeWith f b)
+    (pick (ltb class cClass) (codeWith f b)
     (pick (eqb class decimalsClass) (decimalWith (kind / sizeUnit) f b)
     (pick (isFixedClass class) (textWith (fixedText class) f b) (digitWith f b))))
 
@@ -125,14 +125,14 @@ isFixed f size = eqb (f .wrong) 0 && eqb (f .length) size
 
 unfoldable pub textFault : ℕ → ℕ → Field → ℕ
 textFault class size f =
-    pick (ltb size (f .length)) 11 (pick (eqb class cClass || isFixed f size) 0 12)
+    pick (ltb size (f .length)) 11 (pick (leb class cClass || isFixed f size) 0 12)
 
 unfoldable pub isTextClass : ℕ → Bool
-isTextClass class = eqb class cClass || isFixedClass class
+isTextClass class = leb class cClass || isFixedClass class
 
 unfoldable pub faultOf : ℕ → Field → ℕ → ℕ
 faultOf kind f due =
     let class = kind % sizeUnit in
     let size = kind / sizeUnit in
-    pick (ltb class cClass) 0
+    pick (ltb class lineCodeClass) 0
     (pick (isTextClass class) (textFault class size f) (numberFault class size f due))

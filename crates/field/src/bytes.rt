@@ -11,6 +11,8 @@ pub const SIZE_UNIT: u64 = layout::kinds::SIZE_UNIT as u64;
 
 pub const CLASS_CODE: u64 = layout::kinds::CLASS_CODE as u64;
 
+pub const CLASS_LINE_CODE: u64 = layout::kinds::CLASS_LINE_CODE as u64;
+
 pub const CLASS_C: u64 = layout::kinds::CLASS_C as u64;
 
 pub const CLASS_N_ANY: u64 = layout::kinds::CLASS_N_ANY as u64;
@@ -223,7 +225,7 @@ pub fn is_fixed_class(class: u64) -> bool
     class == CLASS_LFPD || class == CLASS_BRASIL
 }
 
-// One more byte of a field of this kind; of a text only the length is asked.
+// One more byte of a field of this kind; of a text only the length is asked. What stands before the texts are codes.
 pub fn with_byte(kind: u64, f: Field, b: u8) -> Field
     requires { ⌜ FieldFit f ⌝ }
     ensures { λ r. ⌜ r ≡ withByte kind f b ⌝ }
@@ -236,7 +238,7 @@ pub fn with_byte(kind: u64, f: Field, b: u8) -> Field
             value: f.value,
         };
     }
-    if class == CLASS_CODE {
+    if class < CLASS_C {
         return code_with(f, b);
     }
     if class == CLASS_DECIMALS {

@@ -8,6 +8,7 @@ use crate::bytes::CLASS_COUNT;
 use crate::bytes::CLASS_CPF;
 use crate::bytes::CLASS_DATE;
 use crate::bytes::CLASS_DECIMALS;
+use crate::bytes::CLASS_LINE_CODE;
 use crate::bytes::CLASS_N_ANY;
 use crate::bytes::CLASS_OPENS;
 use crate::bytes::Field;
@@ -137,7 +138,7 @@ fn text_fault(class: u64, size: u64, f: Field) -> u64
     if size < f.length {
         return WRONG_SIZE;
     }
-    if class == CLASS_C {
+    if class <= CLASS_C {
         return 0;
     }
     if is_fixed(f, size) {
@@ -149,7 +150,7 @@ fn text_fault(class: u64, size: u64, f: Field) -> u64
 fn is_text_class(class: u64) -> bool
     ensures { λ r. ⌜ r ≡ isTextClass class ⌝ }
 {
-    class == CLASS_C || is_fixed_class(class)
+    class <= CLASS_C || is_fixed_class(class)
 }
 
 // The bar after a field of this kind; `due` is what a count must state.
@@ -158,7 +159,7 @@ pub fn fault(kind: u64, f: Field, due: u64) -> u64
 {
     let class = kind % SIZE_UNIT;
     let size = kind / SIZE_UNIT;
-    if class < CLASS_C {
+    if class < CLASS_LINE_CODE {
         return 0;
     }
     if is_text_class(class) {

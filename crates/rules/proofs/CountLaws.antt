@@ -17,7 +17,7 @@ use Rattle.layout.proofs.StartLaws.{startOf, starts-rise, in-block, before-bloc
 use Rattle.rules.specs.Counts.{linesOfRow, linesOfBlock, countsOfRows, totalsOfRows}
 use Rattle.rules.specs.Totals.{sum, sumOfBlock, blockCount}
 use Rattle.rules.proofs.AllRows.{AllRows}
-use Rattle.rules.proofs.TestLaws.{split}
+use Rattle.rules.proofs.TestLaws.{split, pick-le}
 
 -- the lines of row k after one more line
 module _ (k r : ℕ) (rows : List ℕ) where
@@ -28,6 +28,14 @@ module _ (k r : ℕ) (rows : List ℕ) where
   pub lines-past : (r ≡ k → ⊥) → linesOfRow k (r ∷ rows) ≡ linesOfRow k rows
   unfolding linesOfRow
   lines-past e = rw (ne-eqb r k e)
+
+-- no row has more lines than there are
+pub lines-most : (k : ℕ) (rows : List ℕ) → linesOfRow k rows ≤ length rows
+unfolding linesOfRow
+lines-most k [] = omega arith
+lines-most k (r ∷ rows) =
+    let rest = lines-most k rows in
+    pick-le (eqb r k) (suc (linesOfRow k rows)) (linesOfRow k rows) (suc (length rows)) (omega arith) (omega arith)
 
 pub counts-at : (rows : List ℕ) (k : ℕ) → k < rowCount → getD (countsOfRows rows) k 0 ≡ linesOfRow k rows
 unfolding countsOfRows

@@ -7,10 +7,11 @@ use Prim.Native.Nat.{ℕ, _<_}
 use native.Mathlib.Omega.{arith}
 use lib.Dec.{T, eqb, ltb, eqb→eq}
 use borrow.Author.Tests.{eqb-true}
+use Rattle.layout.specs.Lists.{allBelow}
 use Rattle.layout.specs.Text.{bytes, codeNumber, textNumber}
 use Rattle.layout.specs.Rows.{rowTable, listed, code, level, rowCount, blockLetters, placeOf, block, isOpening, isClosing}
 use Rattle.layout.specs.Rows.{lastAmong, parent, opening, row0000, row0001, row9999}
-use Rattle.layout.proofs.Below.{below, those, those-at}
+use Rattle.layout.proofs.Below.{those, those-at}
 use Rattle.layout.proofs.BlockLaws.{opening-is, opening-block}
 use Rattle.layout.proofs.RoleLaws.{none-closing, block-9990, closing-9990}
 use Rattle.rules.specs.Bytes.{rowOf}
@@ -33,7 +34,7 @@ abbrev standsSecond : ℕ → Bool
 standsSecond r = canStand r (row0000 ∷ [])
 
 stands-computed : T (those rowCount standsFirst (λ r. eqb r row0000)) × T (those rowCount standsSecond (λ r. eqb r row0001))
-unfolding those below canStand startsFile startsBlock endsBlock endsFile hangs last isOpen openRows shallower among parent
+unfolding those allBelow canStand startsFile startsBlock endsBlock endsFile hangs last isOpen openRows shallower among parent
     opening lastAmong block placeOf blockLetters level isOpening isClosing code listed rowTable textNumber codeNumber bytes
 stands-computed = (tt, tt)
 

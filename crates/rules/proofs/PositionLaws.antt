@@ -7,7 +7,7 @@ use Prim.Native.Nat.{ℕ, suc, _+_, _-_, _<_, _≤_}
 use native.Mathlib.Omega.{arith}
 use lib.ListN.{length, replicate}
 use Rattle.layout.specs.Kinds.{kind}
-use Rattle.layout.specs.Kind.{Kind, codeField, C, N, N-, decimals, date, cnpj, cpf, lfpd, brasil, opens, count, noField}
+use Rattle.layout.specs.Kind.{Kind, codeField, lineCode, C, N, N-, decimals, date, cnpj, cpf, lfpd, brasil, opens, count, noField}
 use Rattle.rules.specs.Bytes.{rowAtHand, bars, word, empty}
 use Rattle.rules.specs.Fields.{Form, isDigit, allDigits, isDecimal, beginsDecimal, comma, formOf}
 use Rattle.rules.specs.Position.{position, passes, Begins}
@@ -77,6 +77,7 @@ of-kind : (k : Kind) → Beginnings (formOf k .characters) (formOf k .begins)
 unfolding formOf
 of-kind codeField = of-any
 of-kind (C s) = of-any
+of-kind lineCode = of-any
 of-kind (N s) = of-digits
 of-kind N- = of-digits
 of-kind (decimals d) = of-decimals d

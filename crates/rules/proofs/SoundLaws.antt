@@ -1,5 +1,5 @@
 -- What holds of a clean history: its lines stand, their fields passed their bars, and the line at hand is on its way to that.
-use mathlib.Core.Path.{_≡_, _∙_, refl, sym}
+use mathlib.Core.Path.{_≡_, _∙_, refl, sym, ap}
 use mathlib.Core.Bool.{true, false, not, _&&_, _||_}
 use mathlib.Core.List.{List, [], _∷_, map}
 use Prim.Native.Nat.{ℕ, suc, _≤_, _<_}
@@ -10,18 +10,20 @@ use lib.ListN.{length}
 use borrow.Author.Tests.{eq-eqb, ne-eqb, eqb-true, eqb-false, not-false}
 use Rattle.layout.specs.Pick.{pick}
 use Rattle.layout.specs.Text.{codeNumber}
-use Rattle.layout.specs.Rows.{none, rowCount, rowOfCode, fields, isClosing}
+use Rattle.layout.specs.Rows.{none, rowCount, rowOfCode, fields, isClosing, row9999}
 use Rattle.layout.specs.Kinds.{kind}
 use Rattle.rules.specs.Bytes.{bar, LF, lines, lineAtHand, field, rowOfWord, rowOf}
 use Rattle.rules.specs.Bytes.{rows, rowAtHand, bars, word, empty, isEndByte, cut}
 use Rattle.rules.specs.Order.{canStand, hasRoom, isData}
 use Rattle.rules.specs.Counts.{due}
 use Rattle.rules.specs.Fields.{formOf, states}
+use Rattle.rules.specs.Statements.{allTrue}
 use Rattle.rules.specs.Rules.{clear, rules, firstBroken, fault, inField}
 use Rattle.rules.specs.Rules.{pastFields, rowToBe, formAtHand, openedBy, byteLimit, controlByte}
 use Rattle.rules.proofs.TestLaws.{split, pick-le, pick-clear, broken-clear, then-holds}
 use Rattle.layout.proofs.CodeLaws.{row-of-code-le}
 use Rattle.layout.proofs.RowLaws.{fields-two}
+use Rattle.layout.proofs.RoleLaws.{fields-9999}
 use Rattle.rules.proofs.ByteLaws.{lines-on, rows-on, bars-on, field-on, row-on, lines-bar, rows-bar}
 use Rattle.rules.proofs.ByteLaws.{bars-bar, field-bar, row-code, row-later, lines-lf, rows-lf, bars-lf}
 use Rattle.rules.proofs.FaultLaws.{Place, starts, codes, fills, ends, place, past-fields}
@@ -41,6 +43,11 @@ AllPassed [] = Unit {0}
 AllPassed (line ∷ before) =
     ((n : ℕ) → 2 ≤ n → n ≤ fields (rowOf line) → Passed (rowOf line) (map rowOf before) n (field n line)) × AllPassed before
 
+-- where 9999 comes, each 9900 line before it states what is true, 9999 counted in
+abbrev pub AllTold : List (List ℕ) → Type 0
+AllTold [] = Unit {0}
+AllTold (line ∷ before) = (rowOf line ≡ row9999 → allTrue (row9999 ∷ map rowOf before) before ≡ true) × AllTold before
+
 abbrev pub Known : ℕ → List ℕ → Type 0
 Known r before = (r < rowCount) × (canStand r before ≡ true) × (hasRoom r before ≡ true)
 
@@ -48,10 +55,13 @@ pub record Sound (seen : List ℕ) : Type 0 where
   -- the lines ended
   pub stood : Stood (rows seen)
   pub passed : AllPassed (lines seen)
+  pub told : AllTold (lines seen)
   -- the line at hand: its row once its code has come, its bars, its fields that have ended
   pub known : 2 ≤ bars seen → Known (rowAtHand seen) (rows seen)
   pub within : bars seen ≤ suc (fields (rowAtHand seen))
   pub passing : (n : ℕ) → 2 ≤ n → n < bars seen → Passed (rowAtHand seen) (rows seen) n (field n (lineAtHand seen))
+  -- rule 23 has been judged once field 2 of 9999 has ended
+  pub telling : 3 ≤ bars seen → rowAtHand seen ≡ row9999 → allTrue (row9999 ∷ rows seen) (lines seen) ≡ true
   -- all bytes
   pub short : length seen ≤ byteLimit
 
@@ -74,22 +84,30 @@ code-known seen e =
     let six = pick-clear (not (hasRoom r (rows seen))) 6 1 0 _ (five .1) in
     (word-row-known (word seen) (three .0), not-false _ (four .0), not-false _ (six .0))
 
--- a bar after a later field that breaks no rule
-pub field-passed : (seen : List ℕ) → fieldFault seen ≡ clear → Passed (rowAtHand seen) (rows seen) (bars seen) (word seen)
+-- a bar after a later field that breaks no rule: the field passed, and after field 2 of 9999 the 9900 lines are true
+pub field-clear : (seen : List ℕ) → fieldFault seen ≡ clear
+    → Passed (rowAtHand seen) (rows seen) (bars seen) (word seen)
+    × (rowAtHand seen ≡ row9999 → bars seen ≡ 2 → allTrue (row9999 ∷ rows seen) (lines seen) ≡ true)
 unfolding formAtHand
-field-passed seen e =
+field-clear seen e =
     let w = word seen in
     let n = bars seen in
-    let f = formOf (kind (rowAtHand seen) n) in
-    let s = states (due (rowAtHand seen) (rows seen)) w in
+    let r = rowAtHand seen in
+    let f = formOf (kind r n) in
+    let s = states (due r (rows seen)) w in
+    let a = allTrue (row9999 ∷ rows seen) (lines seen) in
     let ten = pick-clear (not (empty w) && not (f .characters w)) 10 n _ _ e in
     let eleven = pick-clear (not (empty w) && not (f .size (length w))) 11 n 0 _ (ten .1) in
     let twelve = pick-clear (not (f .content w)) 12 n 0 _ (eleven .1) in
     let thirteen = pick-clear (f .isCount && not s) 13 n 0 _ (twelve .1) in
-    record {
-      inContent = not-false (f .content w) (twelve .0);
-      inCount = then-holds (f .isCount) s (thirteen .0);
-    }
+    let twenty-four = pick-clear (not (empty w) && not (f .digits w)) 24 n 0 _ (thirteen .1) in
+    let twenty-three = pick-clear (eqb r row9999 && eqb n 2 && not a) 23 n 0 _ (twenty-four .1) in (
+      record {
+        inContent = not-false (f .content w) (twelve .0);
+        inCount = then-holds (f .isCount) s (thirteen .0);
+      },
+      (λ is second. then-holds (eqb r row9999 && eqb n 2) a (twenty-three .0) (rw (eq-eqb r row9999 is, eq-eqb n 2 second))),
+    )
 
 -- LF.
 -- One that breaks no rule stands past the fields
@@ -115,12 +133,15 @@ sound-lf seen s small e =
     let late = past-late seen p in
     let row = s .known late in
     let none-yet = bars-lf seen in
+    let ended = past-fields seen p in
     record {
       stood = rw (rows-lf seen) (row .1, row .2, row .0, s .stood);
-      passed = rw (lines-lf seen) (λ n h l. s .passing n h (omega (arith, past-fields seen p)), s .passed);
+      passed = rw (lines-lf seen) (λ n h l. s .passing n h (omega arith), s .passed);
+      told = rw (lines-lf seen) (λ is. s .telling (omega (arith, ap fields is, fields-9999)) is, s .told);
       known = λ h. absurd (omega arith);
       within = omega arith;
       passing = λ n h l. absurd (omega arith);
+      telling = λ h is. absurd (omega arith);
       short = small;
     }
 
@@ -163,18 +184,34 @@ module _ (seen : List ℕ) (e : firstBroken rules seen bar ≡ clear) where
       go (codes z) d = absurd (omega (arith, bars-bar seen))
       go (ends m p) d = bar-past p
       go (fills m i) (yes d) =
-          rw (row-later seen m, eq-eqb (bars seen) n d, ← d) (field-passed seen (sym (fault-field-bar seen m i) ∙ e))
+          rw (row-later seen m, eq-eqb (bars seen) n d, ← d) (field-clear seen (sym (fault-field-bar seen m i) ∙ e) .0)
       go (fills m i) (no d) =
           rw (row-later seen m, ne-eqb (bars seen) n d) (s .passing n h (omega (arith, bars-bar seen)))
+
+  -- 9999 has two fields, so its bar that comes third stands after field 2
+  telling-bar : 3 ≤ bars (bar ∷ seen) → rowAtHand (bar ∷ seen) ≡ row9999
+      → allTrue (row9999 ∷ rows (bar ∷ seen)) (lines (bar ∷ seen)) ≡ true
+  telling-bar h is = rw (rows-bar seen, lines-bar seen) (go (place seen))
+    where
+      go : Place seen → allTrue (row9999 ∷ rows seen) (lines seen) ≡ true
+      go (starts z) = absurd (omega (arith, bars-bar seen))
+      go (codes d) = absurd (omega (arith, bars-bar seen))
+      go (fills m i) =
+          let at-hand = sym (row-later seen m) ∙ is in
+          field-clear seen (sym (fault-field-bar seen m i) ∙ e) .1 at-hand
+          (omega (arith, in-fields seen i, ap fields at-hand, fields-9999))
+      go (ends m p) = bar-past p
 
   sound-bar : Sound seen → length seen < byteLimit → Sound (bar ∷ seen)
   sound-bar s small =
       record {
         stood = rw (rows-bar seen) (s .stood);
         passed = rw (lines-bar seen) (s .passed);
+        told = rw (lines-bar seen) (s .told);
         known = known-bar s;
         within = within-bar s;
         passing = passing-bar s;
+        telling = telling-bar;
         short = small;
       }
 
@@ -185,11 +222,14 @@ module _ (seen : List ℕ) (b : ℕ) (plain : eqb b LF ≡ false) (inner : eqb b
       record {
         stood = rw (rows-on seen b plain) (s .stood);
         passed = rw (lines-on seen b plain) (s .passed);
+        told = rw (lines-on seen b plain) (s .told);
         known = rw (rows-on seen b plain, row-on seen b plain inner, bars-on seen b plain inner) (s .known);
         within = rw (row-on seen b plain inner, bars-on seen b plain inner) (s .within);
         passing = λ n h l.
             rw (rows-on seen b plain, row-on seen b plain inner, field-on seen b plain inner n)
             (s .passing n h (rw (bars-on seen b plain inner) at l));
+        telling =
+            rw (rows-on seen b plain, lines-on seen b plain, row-on seen b plain inner, bars-on seen b plain inner) (s .telling);
         short = small;
       }
 
@@ -208,9 +248,11 @@ sound-start =
     record {
       stood = tt;
       passed = tt;
+      told = tt;
       known = λ h. absurd (omega arith);
       within = omega arith;
       passing = λ n h l. absurd (omega arith);
+      telling = λ h is. absurd (omega arith);
       short = omega arith;
     }
 

@@ -13,6 +13,7 @@ use Rattle.rules.specs.Counts
 use Rattle.rules.specs.CheckDigits
 use Rattle.rules.specs.Fields
 use Rattle.rules.specs.Position
+use Rattle.rules.specs.Statements
 use Rattle.rules.specs.Rules
 use Rattle.rules.specs.Verdict
 use Rattle.rules.specs.Verdict.{finalOf, totalsOf}
@@ -34,9 +35,10 @@ unfolding cases totalsOfFiles fileOf
     CheckDigits.isCnpj CheckDigits.isCpf
     Fields.isDigit Fields.allDigits Fields.value Fields.isDecimal Fields.upToDecimals Fields.beginsDecimal Fields.isLeapYear
     Fields.daysOf Fields.isDate Fields.sameBytes Fields.isText Fields.formOf Fields.states
+    Statements.occurs Statements.isTrue Statements.allTrue
     Rules.inField Rules.pastFields Rules.isCodeBar Rules.rowToBe Rules.isFieldBar Rules.formAtHand Rules.breaks1 Rules.breaks2
     Rules.breaks3 Rules.breaks4 Rules.breaks5 Rules.openedBy Rules.breaks6 Rules.breaks7 Rules.breaks8 Rules.breaks9
-    Rules.breaks10 Rules.breaks11 Rules.breaks12 Rules.breaks13 Rules.breaks24 Rules.controlByte Rules.wrongByte
+    Rules.breaks10 Rules.breaks11 Rules.breaks12 Rules.breaks13 Rules.breaks24 Rules.breaks23 Rules.controlByte Rules.wrongByte
     Position.position Rules.isLastLine Rules.complete Rules.full
     Rules.rules Rules.firstBroken Rules.faultBy Rules.fault
     Verdict.judged Verdict.verdictAfter Verdict.verdict Verdict.finishAfter Verdict.finishVerdict Verdict.finalOf

@@ -1,7 +1,7 @@
--- Demand 3, of accepted files: the 98 counts add up to the lines, 9999 states the lines, the closings state the lines of their
--- blocks, which add up to all lines; and the first two lines and blocks 0 and 9 are there.
+-- Demand 3, of accepted files: the counts add up to the lines, 9999 states the lines, the closings state the lines of their
+-- blocks, which add up to all lines; and the first two lines and blocks 0 and 9 are there, and the 9900 lines are true.
 use mathlib.Core.Path.{_≡_, _∙_, refl, sym, ap}
-use mathlib.Core.Bool.{Bool, true, false}
+use mathlib.Core.Bool.{Bool, true, false, not, _||_}
 use mathlib.Core.List.{List, [], _∷_, map, reverse}
 use mathlib.Core.Logic.{inl, inr}
 use Prim.Native.Nat.{ℕ, suc, _+_}
@@ -9,16 +9,17 @@ use native.Mathlib.Omega.{arith}
 use lib.Dec.{eqb}
 use lib.ListN.{length, length-map}
 use Rattle.layout.specs.Pick.{pick}
-use Rattle.layout.specs.Rows.{block, isClosing, row0000, row0001, row9999}
+use Rattle.layout.specs.Rows.{block, isClosing, row0000, row0001, row9900, row9999}
 use Rattle.rules.specs.Bytes.{lines, rowOf, rows}
 use Rattle.rules.specs.Order.{last}
 use Rattle.rules.specs.Counts.{linesOfBlock, due}
+use Rattle.rules.specs.Statements.{isTrue, allTrue}
 use Rattle.rules.specs.Rules.{complete}
 use Rattle.rules.specs.Verdict.{accepted, finishVerdict, finalOf, countsOf}
 use Rattle.rules.specs.Totals.{sum, blockCount, statedBy, closingsState}
 use Rattle.rules.specs.Totals.{linesOf, lastLine, rowsOf, IsAmong, IsThere}
 use Rattle.layout.proofs.RoleLaws.{closing-9999}
-use Rattle.rules.proofs.TestLaws.{both}
+use Rattle.rules.proofs.TestLaws.{both, and-left, and-right}
 use Rattle.rules.proofs.Stood.{Stood}
 use Rattle.rules.proofs.AllRows.{stood-rows}
 use Rattle.rules.proofs.CountLaws.{counts-sum, counts-block}
@@ -26,7 +27,7 @@ use Rattle.rules.proofs.BlockLaws.{Over, over-next, block-here, block-p
 use Rattle.rules.proofs.BlockLaws.{due-closing, due-9999, claims, claims-total}
 use Rattle.rules.proofs.ByteLaws.{rows-length}
 use Rattle.rules.proofs.CleanLaws.{Clean, counts-clean, accepted-clean, accepted-numbers}
-use Rattle.rules.proofs.SoundLaws.{sound}
+use Rattle.rules.proofs.SoundLaws.{AllTold, sound}
 use Rattle.rules.proofs.NextLineLaws.{next-line, none-after-9999}
 use Rattle.rules.proofs.FrameLaws.{Ended, by-9999, ended-by, last-is, first-two, some-lines, there, there-0, there-9}
 use Rattle.rules.proofs.StatedLaws.{Stated, stated, closing-states, states-9999}
@@ -91,6 +92,22 @@ closing-block ls (by-9999 {line = l} {before = before} e) s t line (inr m) c =
     let rs = map rowOf before in
     let p = closing-later before (s .3) (t .1) (λ z. none-after-9999 rs (s .3) z (rowOf l) (s .2) (s .0)) line m c .0 in
     rw (e, block-with-9999 x rs) p
+
+-- 9999 states nothing of a code, so what was true of the lines before it is true of all
+last-told : (ls : List (List ℕ)) → Ended ls → AllTold ls → allTrue (map rowOf ls) ls ≡ true
+unfolding allTrue
+last-told ls (by-9999 {line = line} {before = before} e) t = rw e (t .0 e)
+
+-- one of the lines
+told-of : (rs : List ℕ) (ls : List (List ℕ)) → allTrue rs ls ≡ true → (line : List ℕ) → IsAmong line ls → rowOf line ≡ row9900
+    → isTrue rs line ≡ true
+unfolding allTrue
+told-of rs [] t line m e = absurd m
+told-of rs (l ∷ before) t line (inl q) e =
+    let first = and-left (not (eqb (rowOf l) row9900) || isTrue rs l) (allTrue rs before) t in
+    rw (← q, e) at first
+told-of rs (l ∷ before) t line (inr m) e =
+    told-of rs before (and-right (not (eqb (rowOf l) row9900) || isTrue rs l) (allTrue rs before) t) line m e
 
 module _ (file : List ℕ) (l n : ℕ) (answer : finalOf file ≡ accepted l n) where
   abbrev seen : List ℕ
@@ -160,3 +177,12 @@ module _ (file : List ℕ) (l n : ℕ) (answer : finalOf file ≡ accepted l n) 
   -- "0 and 9 must be there"
   pub accepted-has-0-and-9 : IsThere (block row0000) (linesOf file) × IsThere (block row9999) (linesOf file)
   accepted-has-0-and-9 = (there-0 (lines seen) ended stood, there-9 (lines seen) ended stood)
+
+  -- 02, request f: each 9900 line states what is "true of the whole file"
+  pub accepted-told : allTrue (rows seen) (linesOf file) ≡ true
+  unfolding rows
+  accepted-told = last-told (lines seen) ended (sound seen clean .told)
+
+  pub accepted-statement : (line : List ℕ) → IsAmong line (linesOf file) → rowOf line ≡ row9900
+      → isTrue (rows (reverse file)) line ≡ true
+  accepted-statement line m e = told-of (rows seen) (lines seen) accepted-told line m e

@@ -1,4 +1,4 @@
--- 01, "Both sides of each rule", and 02, requests h, e and g: starred cases and others, each for one rule, without the bytes around
+-- 01, "Both sides of each rule", and 02, requests h, e, g and f: starred cases and others, each for one rule, without the bytes around
 -- it. The starred cases are whole files (Cases); these are short enough that a check which refuses one prints the two numbers
 -- that differ.
 use mathlib.Core.List.{List, [], _∷_, map, reverse}
@@ -14,6 +14,7 @@ use Rattle.rules.specs.Counts.{due, totalsOfRows}
 use Rattle.rules.specs.CheckDigits.{digitsOf, checkDigit, cnpjWeights, cpfWeights}
 use Rattle.rules.specs.Fields.{formOf}
 use Rattle.rules.specs.Position.{position}
+use Rattle.rules.specs.Statements.{allTrue}
 use Rattle.rules.specs.Rules.{Fault, clear, breaks, rules, firstBroken}
 use Rattle.rules.specs.Verdict.{totalsOf}
 
@@ -59,6 +60,23 @@ lineCases =
     bare 3 (dueAfter ("0000" ∷ "0001" ∷ []) "0990") ∷
     bare 3 (dueAfter ("0000" ∷ "0001" ∷ "0990" ∷ "9001" ∷ []) "9990") ∷
     bare 6 (dueAfter ("0000" ∷ "0001" ∷ "0990" ∷ "9001" ∷ "9990" ∷ []) "9999") ∷
+    []
+
+-- 02, request f: block 8's rows, and its place among the blocks
+unfoldable pub block8Cases : List Bare
+block8Cases =
+    -- "4/1": four 8585 under one 8580, and the fifth: 6
+    bare 0 (placed ("8001" ∷ "8500" ∷ "8545" ∷ "8580" ∷ "8585" ∷ "8585" ∷ "8585" ∷ []) "8585") ∷
+    bare 6 (placed ("8001" ∷ "8500" ∷ "8545" ∷ "8580" ∷ "8585" ∷ "8585" ∷ "8585" ∷ "8585" ∷ []) "8585") ∷
+    -- "1/sub-apuração": any number of 8545, under each of them one 8560; "1": one 8050 under each 8020
+    bare 0 (placed ("8001" ∷ "8500" ∷ "8545" ∷ []) "8545") ∷
+    bare 6 (placed ("8001" ∷ "8500" ∷ "8545" ∷ "8560" ∷ []) "8560") ∷
+    bare 0 (placed ("8001" ∷ "8500" ∷ "8545" ∷ "8560" ∷ "8545" ∷ []) "8560") ∷
+    bare 6 (placed ("8001" ∷ "8020" ∷ "8050" ∷ []) "8050") ∷
+    -- "Block 8 stands between H and 9"
+    bare 0 (placed ("H001" ∷ "H990" ∷ []) "8001") ∷
+    bare 4 (placed ("8001" ∷ "8990" ∷ []) "H001") ∷
+    bare 0 (placed ("8001" ∷ "8990" ∷ []) "9001") ∷
     []
 
 -- the rule that a byte breaks after these bytes of its line; 0 where it breaks none
@@ -195,7 +213,70 @@ byteCases =
     bare 0 (dated "29022012") ∷
     []
 
--- 02, request g: the totals of these lines, and of these bytes, a digit for each block: 0, C, E, F, G, H, 9
+-- 02, request f: rule 23 of what a 9900 line states, if these are the codes of the file's lines; 0 where it is true
+unfoldable pub stated : List String → String → ℕ
+stated codes line = pick (allTrue (rowsNamed codes) (reverse (bytes line) ∷ [])) 0 23
+
+-- the value goes
+unfoldable pub valueCases : List Bare
+valueCases =
+    bare 0 (stated ("9999" ∷ []) "|9900|9999|1|\r") ∷
+    bare 0 (stated ("9999" ∷ []) "|9900|9999|0001|\r") ∷
+    bare 23 (stated ("9999" ∷ []) "|9900|9999|11|\r") ∷
+    []
+
+-- a code that is no row occurs 0 times, an empty one too
+unfoldable pub noRowCases : List Bare
+noRowCases =
+    bare 0 (stated ("9900" ∷ []) "|9900|9998|0|\r") ∷
+    bare 23 (stated ("9900" ∷ []) "|9900|9998|1|\r") ∷
+    bare 23 (stated ("9900" ∷ []) "|9900||1|\r") ∷
+    []
+
+-- an empty number is untrue; 9030 is not judged
+unfoldable pub emptyCases : List Bare
+emptyCases =
+    bare 23 (stated ("9900" ∷ []) "|9900|9998||\r") ∷
+    bare 0 (stated ("9030" ∷ []) "|9030|9999|7|\r") ∷
+    []
+
+-- the same at the bar after field 2 of 9999, after this line: 9999 itself is counted, and 13 goes before
+unfoldable pub lastBarCase : Bare
+lastBarCase = bare 0 (brokenAfter "|9900|9999|1|\r\n|9999|2" bar)
+
+unfoldable pub countBeforeCase : Bare
+countBeforeCase = bare 13 (brokenAfter "|9900|9999|0|\r\n|9999|3" bar)
+
+-- a code stated twice, once untrue
+unfoldable pub statedBoth : String → String → ℕ
+statedBoth line after = pick (allTrue (rowsNamed ("9900" ∷ "9900" ∷ [])) (reverse (bytes after) ∷ reverse (bytes line) ∷ [])) 0 23
+
+unfoldable pub twiceCases : List Bare
+twiceCases =
+    bare 23 (statedBoth "|9900|9900|1|\r" "|9900|9900|2|\r") ∷
+    bare 23 (statedBoth "|9900|9900|2|\r" "|9900|9900|1|\r") ∷
+    bare 0 (statedBoth "|9900|9900|2|\r" "|9900|9900|2|\r") ∷
+    []
+
+-- fields of 8001, 8160, 9020 and 9900
+unfoldable pub newFieldCases : List Bare
+newFieldCases =
+    -- field 2 of 8001 does what it does in other openings; UF may be empty, and has two bytes at most
+    bare 12 (brokenAfter "|8001|2" bar) ∷
+    bare 12 (brokenAfter "|8001|" bar) ∷
+    bare 0 (brokenAfter "|8001|0|" bar) ∷
+    bare 11 (brokenAfter "|8001|0|PE " bar) ∷
+    -- 8160 has no decimals; a text called fixed is judged by its size, ARQ_DT_INI is no date
+    bare 0 (brokenAfter "|8160|1" bar) ∷
+    bare 0 (brokenAfter "|9020|LFPB" bar) ∷
+    bare 11 (brokenAfter "|9020|LFPD " bar) ∷
+    bare 0 (brokenAfter "|9020|LFPD|31022012" bar) ∷
+    -- a code of more than four bytes: 11; a letter in the number: 10
+    bare 11 (brokenAfter "|9900|99990" bar) ∷
+    bare 10 (brokenAfter "|9900|9999|1x" bar) ∷
+    []
+
+-- 02, request g: the totals of these lines, and of these bytes, a digit for each block: 0, C, E, F, G, H, 8, 9
 abbrev asDigits : ℕ → List ℕ → ℕ
 asDigits n [] = n
 asDigits n (t ∷ totals) = asDigits (n * 10 + t) totals
@@ -209,7 +290,7 @@ totalsIn text = asDigits 0 (totalsOf (bytes text))
 unfoldable pub totalsCases : List Bare
 totalsCases =
     -- two lines of block 0 and one of block 9
-    bare 2000001 (totalsAfter ("0000" ∷ "0001" ∷ "9001" ∷ [])) ∷
+    bare 20000001 (totalsAfter ("0000" ∷ "0001" ∷ "9001" ∷ [])) ∷
     -- a line that its first byte refuses, by 1, raises no total
     bare 0 (totalsIn "x|0001|1|\r\n") ∷
     []

@@ -35,6 +35,12 @@ withCnpj cnpj = "|0000|LFPD|01012012|31012012|Loja Um|" ∷ cnpj ∷ "||||||||||
 abbrev withCpf : String → List String
 withCpf cpf = "|0000|LFPD|01012012|31012012|Loja Um|||||||||||Brasil|||" ∷ cpf ∷ "||\r\n" ∷ "|0001|1|\r\n" ∷ closing0
 
+-- Base with these lines of data in block 9, which are so many, and what 9990 and 9999 then state
+abbrev withData : List String → String → String → List String
+withData statements lines9 lines =
+    first ∷ "|0001|1|\r\n" ∷ "|0990|3|\r\n" ∷ "|9001|0|\r\n" ∷ statements
+    ++ "|9990|" ∷ lines9 ∷ "|\r\n|9999|" ∷ lines ∷ "|\r\n" ∷ []
+
 -- number, line, field, position, lines ended, bytes judged; the first line has 60 bytes, each other line of Base 10
 unfoldable pub cases : List Case
 cases =
@@ -66,6 +72,23 @@ cases =
     -- 02, request e: 9x012012 in field 3: 10, position 2; 0990 saying 3x: 10, position 2
     case ("|0000|LFPD|9x012012|31012012|Loja Um|||||||||||Brasil|||||\r\n" ∷ "|0001|1|\r\n" ∷ closing0) (refused 10 1 3 2 0 20) ∷
     case (first ∷ "|0001|1|\r\n" ∷ "|0990|3x|\r\n" ∷ closing9) (refused 10 3 2 2 2 79) ∷
+    -- 02, request f: 9999 occurs once, and a code that is no row never; stated else: 23, at field 2 of 9999
+    case (withData ("|9900|9999|1|\r\n" ∷ []) "4" "7") (accepted 7 125) ∷
+    case (withData ("|9900|9999|0|\r\n" ∷ []) "4" "7") (refused 23 7 2 0 6 123) ∷
+    case (withData ("|9900|9998|0|\r\n" ∷ []) "4" "7") (accepted 7 125) ∷
+    case (withData ("|9900|9998|1|\r\n" ∷ []) "4" "7") (refused 23 7 2 0 6 123) ∷
+    -- no number: 23; 9999 states too few lines: 13
+    case (withData ("|9900|0000||\r\n" ∷ []) "4" "7") (refused 23 7 2 0 6 122) ∷
+    case (withData ("|9900|0000||\r\n" ∷ []) "4" "6") (refused 13 7 2 0 6 122) ∷
+    -- a code stated twice: each time it must be true
+    case (withData ("|9900|9900|2|\r\n" ∷ "|9900|9900|002|\r\n" ∷ []) "5" "8") (accepted 8 142) ∷
+    case (withData ("|9900|9900|1|\r\n" ∷ "|9900|9900|2|\r\n" ∷ []) "5" "8") (refused 23 8 2 0 7 138) ∷
+    case (withData ("|9900|9900|2|\r\n" ∷ "|9900|9900|1|\r\n" ∷ []) "5" "8") (refused 23 8 2 0 7 138) ∷
+    -- an opening 0 and no data: 5 at 9990; block 8 without data, its opening with three fields
+    case (withData [] "3" "6") (refused 5 5 1 0 4 96) ∷
+    case
+    (first ∷ "|0001|1|\r\n" ∷ "|0990|3|\r\n" ∷ "|8001|1|PE|\r\n|8990|2|\r\n" ∷ "|9001|1|\r\n|9990|3|\r\n|9999|8|\r\n" ∷ [])
+    (accepted 8 133) ∷
     -- Base plus byte 26: 15, line 7
     case (first ∷ "|0001|1|\r\n" ∷ closing0 ++ "\u{1a}" ∷ []) (refused 15 7 0 0 6 111) ∷
     []
@@ -78,14 +101,16 @@ pub record Totalled : Type 0 where
 abbrev totalled : List String → List ℕ → Totalled
 totalled file totals = record { file = fileOf file; totals = totals }
 
--- blocks 0, C, E, F, G, H, 9
+-- blocks 0, C, E, F, G, H, 8, 9
 unfoldable pub totalsOfFiles : List Totalled
 totalsOfFiles =
     -- Base; no bytes
-    totalled (first ∷ "|0001|1|\r\n" ∷ closing0) (3 ∷ 0 ∷ 0 ∷ 0 ∷ 0 ∷ 0 ∷ 3 ∷ []) ∷
-    totalled [] (0 ∷ 0 ∷ 0 ∷ 0 ∷ 0 ∷ 0 ∷ 0 ∷ []) ∷
+    totalled (first ∷ "|0001|1|\r\n" ∷ closing0) (3 ∷ 0 ∷ 0 ∷ 0 ∷ 0 ∷ 0 ∷ 0 ∷ 3 ∷ []) ∷
+    totalled [] (0 ∷ 0 ∷ 0 ∷ 0 ∷ 0 ∷ 0 ∷ 0 ∷ 0 ∷ []) ∷
     -- 0990 saying 2, refused by 13: its line is not ended
-    totalled (first ∷ "|0001|1|\r\n" ∷ "|0990|2|\r\n" ∷ closing9) (2 ∷ 0 ∷ 0 ∷ 0 ∷ 0 ∷ 0 ∷ 0 ∷ []) ∷
+    totalled (first ∷ "|0001|1|\r\n" ∷ "|0990|2|\r\n" ∷ closing9) (2 ∷ 0 ∷ 0 ∷ 0 ∷ 0 ∷ 0 ∷ 0 ∷ 0 ∷ []) ∷
     -- Base cut off before the LF of 9990
-    totalled (first ∷ "|0001|1|\r\n" ∷ "|0990|3|\r\n" ∷ "|9001|1|\r\n" ∷ "|9990|3|\r" ∷ []) (3 ∷ 0 ∷ 0 ∷ 0 ∷ 0 ∷ 0 ∷ 1 ∷ []) ∷
+    totalled (first ∷ "|0001|1|\r\n" ∷ "|0990|3|\r\n" ∷ "|9001|1|\r\n" ∷ "|9990|3|\r" ∷ []) (3 ∷ 0 ∷ 0 ∷ 0 ∷ 0 ∷ 0 ∷ 0 ∷ 1 ∷ []) ∷
+    -- after a 23 there is no 9999 among them
+    totalled (withData ("|9900|9999|0|\r\n" ∷ []) "4" "7") (3 ∷ 0 ∷ 0 ∷ 0 ∷ 0 ∷ 0 ∷ 0 ∷ 3 ∷ []) ∷
     []

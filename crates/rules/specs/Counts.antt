@@ -24,7 +24,7 @@ due r before =
     pick (eqb r row9999) (suc (length before))
     (suc (linesOfBlock (block r) before) + pick (eqb (block r) (block row9999)) 1 0)
 
--- "a count of lines for each of the 98 rows", in row order
+-- "a count of lines for each of the .. rows", in row order
 unfoldable pub countsOfRows : List ℕ → List ℕ
 countsOfRows rows = tabulate rowCount (λ r. linesOfRow r rows)
 

@@ -8,7 +8,7 @@ use lib.Dec.{eqb, leb}
 use lib.ListN.{getD, take, drop}
 use Rattle.layout.specs.Pick.{pick}
 use Rattle.layout.specs.Text.{bytes}
-use Rattle.layout.specs.Kind.{Kind, codeField, C, N, N-, decimals, date, cnpj, cpf, lfpd, brasil, opens, count, noField}
+use Rattle.layout.specs.Kind.{Kind, codeField, lineCode, C, N, N-, decimals, date, cnpj, cpf, lfpd, brasil, opens, count, noField}
 use Rattle.rules.specs.Bytes.{empty}
 use Rattle.rules.specs.CheckDigits.{digitsOf, isCnpj, isCpf}
 
@@ -123,6 +123,7 @@ withCheckDigits s right =
 unfoldable pub formOf : Kind → Form
 formOf codeField = ofText any any
 formOf (C s) = ofText (atMost s) any
+formOf lineCode = ofText (atMost 4) any
 formOf (N s) = ofDigits (exactly s) any
 formOf N- = ofDigits any any
 formOf (decimals d) = form (isDecimal d) (beginsDecimal d) any any

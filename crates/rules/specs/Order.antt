@@ -1,4 +1,4 @@
--- 01, "The 98 rows" and "The order of lines": open lines, parents among the lines before, and where a line can stand.
+-- 01, its rows and "The order of lines": open lines, parents among the lines before, and where a line can stand.
 -- `before` has the rows of the lines before a line, the nearest first.
 use mathlib.Core.Bool.{Bool, false, _&&_, _||_}
 use mathlib.Core.List.{List, [], _∷_}
@@ -37,7 +37,7 @@ isOpen r before = among r (openRows before)
 unfoldable pub startsFile : List ℕ → Bool
 startsFile before = eqb (last before) none
 
--- "the second 0001"; "Blocks come in the order 0, C, E, F, G, H, 9; .. the others may be absent":
+-- "the second 0001"; "Blocks come in the order 0, C, E, F, G, H, 9; .. the others may be absent", and 8 before 9 (02, request f):
 -- another block's opening follows the closing of a block before it in this order
 unfoldable pub startsBlock : ℕ → List ℕ → Bool
 startsBlock r before =

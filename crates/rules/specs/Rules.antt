@@ -1,4 +1,4 @@
--- 01, "What a refusal says": rules 1 to 13, 15 and 16, and 02's 24, one by one, and which of them a byte breaks.
+-- 01, "What a refusal says": rules 1 to 13, 15 and 16, and 02's 23 and 24, one by one, and which of them a byte breaks.
 -- `seen` has the bytes received before the byte b, the latest first.
 use mathlib.Core.Bool.{Bool, false, not, _&&_, _||_}
 use mathlib.Core.List.{List, [], _∷_}
@@ -14,6 +14,7 @@ use Rattle.rules.specs.Order.{canStand, hasRoom, isData}
 use Rattle.rules.specs.Counts.{due}
 use Rattle.rules.specs.Fields.{Form, formOf, isText, states}
 use Rattle.rules.specs.Position.{position}
+use Rattle.rules.specs.Statements.{allTrue}
 
 -- Where the byte stands: in a field of its line (field 1 until the row is known), or past the last field.
 unfoldable pub inField : List ℕ → Bool
@@ -99,6 +100,13 @@ breaks13 seen b = isFieldBar seen b && formAtHand seen .isCount && not (states (
 unfoldable pub breaks24 : List ℕ → ℕ → Bool
 breaks24 seen b = isFieldBar seen b && not (empty (word seen)) && not (formAtHand seen .digits (word seen))
 
+-- 23, by 02, request f: "a stated number of a code is untrue"; "it is judged at the bar after field 2 of 9999", and 9999 is a line of
+-- the whole file
+unfoldable pub breaks23 : List ℕ → ℕ → Bool
+breaks23 seen b =
+    isFieldBar seen b
+    && (eqb (rowAtHand seen) row9999 && eqb (bars seen) 2 && not (allTrue (row9999 ∷ rows seen) (lines seen)))
+
 -- 15: "a byte after 9999's LF"
 unfoldable pub isLastLine : List (List ℕ) → Bool
 isLastLine [] = false
@@ -122,8 +130,8 @@ controlByte seen = suc (length (word seen))
 unfoldable pub wrongByte : List ℕ → ℕ
 wrongByte seen = position (formAtHand seen) (word seen)
 
--- The table of 01 without 14 to 19, and after it 02's 24: a rule's number, when it is broken, the field that the refusal names,
--- and the position in that field.
+-- The table of 01 without 14 to 19, and after it 02's 24 and 23, in 02's order: a rule's number, when it is broken, the field that
+-- the refusal names, and the position in that field.
 pub record Rule : Type 0 where
   pub number : ℕ
   pub broken : List ℕ → ℕ → Bool
@@ -155,6 +163,7 @@ rules =
     rule 12 breaks12 bars noByte ∷
     rule 13 breaks13 bars noByte ∷
     rule 24 breaks24 bars noByte ∷
+    rule 23 breaks23 bars noByte ∷
     []
 
 -- what a byte breaks: nothing, or a rule by its number, with the field and the position

@@ -1,4 +1,4 @@
--- 01, "What a refusal says": the verdict of all bytes so far, the answer of finish, and the 98 counts; 02, request g: the totals.
+-- 01, "What a refusal says": the verdict of all bytes so far, the answer of finish, and the counts; 02, request g: the totals.
 use mathlib.Core.Bool.{Bool, true, false}
 use mathlib.Core.List.{List, [], _∷_, reverse}
 use Prim.Native.Nat.{ℕ, suc}
@@ -54,7 +54,7 @@ unfoldable pub standing : List ℕ → List ℕ
 standing [] = []
 standing (b ∷ seen) = let rest = standing seen in pick (unrefused (verdict (b ∷ seen))) (b ∷ seen) rest
 
--- "98 counts in row order, of lines ended so far"
+-- the report's "counts in row order, of lines ended so far"
 unfoldable pub counts : List ℕ → List ℕ
 counts seen = countsOfRows (rows (standing seen))
 
