@@ -1,11 +1,13 @@
 //! Other ways to what the checker works out, for tests to hold its own to. Of a
 //! CNPJ or CPF no check digit is worked out: the number is summed up as it is
 //! written. The wrong byte of a field is found by counting its digits. The totals
-//! of the blocks are added up from the 98 counts.
+//! of the blocks are added up from the rows' counts. What 9900 lines state is held to
+//! the codes as they are written.
 
-use crate::rows::{rows, BLOCKS};
+use crate::rows::{rows, Counts, BLOCKS};
 use crate::totals::Totals;
 use crate::CheckedNumber::{self, Cnpj, Cpf};
+use crate::{BAR, LF};
 
 pub fn is_right_in_another_way(checked: CheckedNumber, text: &[u8]) -> bool {
     let size = match checked {
@@ -44,10 +46,31 @@ pub fn wrong_byte_in_another_way(text: &[u8], decimals: Option<usize>) -> usize 
 }
 
 /// The counts of each block's rows, added up.
-pub fn totals_in_another_way(counts: &[u64; 98]) -> Totals {
+pub fn totals_in_another_way(counts: &Counts) -> Totals {
     let of_block = |block: u8| {
         let rows = rows().iter().zip(counts).filter(move |(row, _)| row.block() == block);
         rows.map(|(_, count)| count).sum()
     };
     BLOCKS.map(of_block)
+}
+
+/// No row is looked up: the bytes begin lines, and each line's first field is
+/// its code. The last line may be cut off after its code.
+pub fn statements_are_true_in_another_way(bytes: &[u8]) -> bool {
+    let lines: Vec<Vec<&[u8]>> = bytes
+        .split(|&byte| byte == LF)
+        .map(|line| line.split(|&byte| byte == BAR).skip(1).collect())
+        .filter(|fields: &Vec<&[u8]>| !fields.is_empty())
+        .collect();
+    let is_true = |fields: &&Vec<&[u8]>| {
+        let occurs = lines.iter().filter(|other| other[0] == fields[1]).count();
+        is_number_in_another_way(fields[2], occurs)
+    };
+    lines.iter().filter(|fields| fields[0] == b"9900").all(|fields| is_true(&fields))
+}
+
+/// The number is written again as long as the digits are.
+fn is_number_in_another_way(digits: &[u8], number: usize) -> bool {
+    let again = format!("{number:0width$}", width = digits.len());
+    !digits.is_empty() && digits == again.as_bytes()
 }

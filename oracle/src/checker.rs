@@ -1,6 +1,7 @@
 //! Pieces as they come in: each answer is the verdict of the joined bytes,
 //! until finish has been asked. Totals are those of these bytes at any time.
 
+use crate::rows::ROWS;
 use crate::totals::Totals;
 use crate::verdict::{judgement, Final, Judgement, Verdict};
 
@@ -80,13 +81,13 @@ impl Checker {
         self.judged.at_finish.into()
     }
 
-    /// Writes the 98 counts into the first places of the lent buffer and gives
+    /// Writes the 134 counts into the first places of the lent buffer and gives
     /// lines ended and bytes judged, or gives 18 and writes nothing.
     pub fn report(&self, room: &mut [u64]) -> Result<(u64, u64), Answer> {
-        if room.len() < 98 {
+        if room.len() < ROWS {
             return Err(Answer::misuse(18));
         }
-        room[..98].copy_from_slice(&self.judged.counts);
+        room[..ROWS].copy_from_slice(&self.judged.counts);
         Ok(Answer::from(self.judged.verdict).lines_and_bytes())
     }
 

@@ -39,7 +39,7 @@ pub fn wrong_value(spot: &Spot) -> Option<usize> {
         Role::Fixed(text) => spot.text != text.as_bytes(),
         Role::Mark => spot.text != b"0" && spot.text != b"1",
         Role::Date => !spot.text.is_empty() && !is_date(spot.text),
-        Role::Plain | Role::Count | Role::Checked(_) => false,
+        Role::Plain | Role::Count | Role::Stated | Role::Checked(_) => false,
     };
     breaks.then_some(spot.field)
 }

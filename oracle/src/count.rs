@@ -1,4 +1,5 @@
-//! Counts of lines written in closings and in 9999.
+//! Counts of lines written in closings and in 9999, and what a number of any
+//! length comes to.
 
 use crate::lines::Lines;
 use crate::rows::Row;
@@ -13,11 +14,13 @@ pub fn expected_count(row: &Row, before: &Lines) -> usize {
     }
 }
 
-/// Digits of any length with this value. Compared as writing, so that no
-/// long count can wrap to the right value.
+/// Digits of any length with this value; no digits have none. Compared as
+/// writing, so that no long count can wrap to the right value.
 pub fn has_value(digits: &[u8], value: usize) -> bool {
-    let zeros = digits.iter().take_while(|&&digit| digit == b'0').count();
-    &digits[zeros..] == value.to_string().as_bytes()
+    let without_zeros = |digits: &[u8]| -> Vec<u8> {
+        digits.iter().skip_while(|&&digit| digit == b'0').copied().collect()
+    };
+    !digits.is_empty() && without_zeros(digits) == without_zeros(value.to_string().as_bytes())
 }
 
 #[cfg(test)]
@@ -29,5 +32,7 @@ mod tests {
         assert!(has_value(b"3", 3) && has_value(b"0003", 3));
         assert!(!has_value(b"", 3) && !has_value(b"30", 3) && !has_value(b"13", 3));
         assert!(!has_value(b"18446744073709551619", 3) && !has_value(b"4294967299", 3));
+        assert!(has_value(b"0", 0) && has_value(b"000", 0));
+        assert!(!has_value(b"", 0) && !has_value(b"10", 0) && !has_value(b"0", 10));
     }
 }

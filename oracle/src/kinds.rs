@@ -26,6 +26,9 @@ pub enum Role {
     Mark,
     /// Field 2 of a closing or of 9999.
     Count,
+    /// Field 3 of 9900: how often the code before it occurs. At its own bar it
+    /// is a number as any other.
+    Stated,
     /// A CNPJ or CPF, with check digits.
     Checked(CheckedNumber),
 }
@@ -47,7 +50,7 @@ impl Role {
     /// What is said of a field beyond its columns; nothing of a plain one.
     pub fn word(&self) -> Option<&'static str> {
         match self {
-            Role::Plain => None,
+            Role::Plain | Role::Stated => None,
             Role::Date => Some("date"),
             Role::Fixed(text) => Some(text),
             Role::Mark => Some("mark"),
@@ -71,7 +74,7 @@ impl Kind {
 
     /// Whether it stands with nothing in it.
     pub fn may_be_empty(&self) -> bool {
-        matches!(self.role, Role::Plain | Role::Date | Role::Checked(_))
+        !matches!(self.role, Role::Fixed(_) | Role::Mark | Role::Count)
     }
 
     /// Whether it can be refused by this number of those that go by what a
@@ -101,6 +104,7 @@ impl fmt::Display for Kind {
             return write!(to, "{word}");
         }
         match (self.size, self.decimals) {
+            _ if self.role == Role::Stated => write!(to, "stated number"),
             _ if !self.numeric => write!(to, "C at most {}", self.longest_text()),
             (Some(1), _) => write!(to, "N of 1 digit"),
             (Some(size), _) => write!(to, "N of {size} digits"),
@@ -167,6 +171,7 @@ fn role(row: &Row, field: usize, name: &str) -> Role {
         ("0000", 16) => Role::Fixed("Brasil"),
         (_, 2) if row.is_opening() => Role::Mark,
         (_, 2) if row.has_count() => Role::Count,
+        ("9900", 3) => Role::Stated,
         _ if name.starts_with("DT_") => Role::Date,
         _ => CheckedNumber::in_field_named(name).map_or(Role::Plain, Role::Checked),
     }
@@ -188,11 +193,11 @@ mod tests {
     }
 
     #[test]
-    fn every_row_has_just_its_fields_995_in_all() {
+    fn every_row_has_just_its_fields_1238_in_all() {
         for (place, row) in rows().iter().enumerate() {
             assert_eq!(fields(place).len() + 1, row.fields, "{}", row.code);
         }
-        assert_eq!(all_kinds().count() + 98, 995);
+        assert_eq!(all_kinds().count() + 134, 1238);
     }
 
     /// Every sheet is of a row, and all but three have as many fields as 01 says.
@@ -213,15 +218,16 @@ mod tests {
     #[test]
     fn fields_of_each_kind() {
         let kinds = distinct_kinds();
-        assert_eq!(kinds.values().sum::<usize>(), 995 - 98);
+        assert_eq!(kinds.values().sum::<usize>(), 1238 - 134);
         let names: std::collections::BTreeSet<String> = kinds.keys().map(Kind::to_string).collect();
         assert_eq!(names.len(), kinds.len());
         let number = |name: &str| kinds.iter().find(|kind| kind.0.to_string() == name).unwrap().1;
-        assert_eq!((*number("LFPD"), *number("mark"), *number("count")), (1, 7, 8));
-        // NIRE and EQP_CNPJ are as long as a CPF and a CNPJ, but none
-        assert_eq!((*number("cpf"), *number("N of 11 digits")), (7, 1));
-        assert_eq!((*number("cnpj"), *number("N of 14 digits")), (7, 1));
-        assert_eq!((*number("C at most 65536"), *number("N with 6 decimals")), (1, 10));
+        assert_eq!((*number("LFPD"), *number("mark"), *number("count")), (1, 8, 9));
+        // NIRE, EQP_CNPJ and two of 9020 are as long as a CPF and a CNPJ, but none
+        assert_eq!((*number("cpf"), *number("N of 11 digits")), (7, 2));
+        assert_eq!((*number("cnpj"), *number("N of 14 digits")), (7, 2));
+        assert_eq!((*number("C at most 65536"), *number("N with 6 decimals")), (3, 10));
+        assert_eq!((*number("N with 4 decimals"), *number("stated number")), (2, 1));
     }
 
     #[test]
@@ -249,6 +255,21 @@ mod tests {
             ("F230", 6, "VOL_AFER N - 2"),
             ("G460", 2, "UF C 2 -"),
             ("H030", 9, "QTD N - 6"),
+            ("8001", 3, "UF C 2 -"),
+            ("8030", 11, "VL_AD_MUN N - 4"),
+            ("8050", 3, "VL_TS N - 2"),
+            ("8160", 4, "DT_FIN N 8 -"),
+            ("8505", 5, "IND_NAT N - -"),
+            ("8525", 4, "NBMSH N 10 -"),
+            ("8545", 2, "COD_BF_ICMS C 5 -"),
+            ("8590", 15, "G4_14 N - 2"),
+            ("8990", 2, "QTD_LIN_8 N - -"),
+            ("9020", 8, "ARQ_IE C 14 -"),
+            ("9020", 21, "ASS_HASH C 128 -"),
+            ("9030", 3, "ARQ_QTD_LIN_BLC N - -"),
+            ("9040", 11, "ARQ_CERT C 65536 -"),
+            ("9900", 2, "LIN_BLC C 4 -"),
+            ("9900", 3, "QTD_LIN_BLC N - -"),
             ("9990", 2, "QTD_LIN_9 N - -"),
         ] {
             assert_eq!(written(code, field), columns, "{code} {field}");
@@ -263,9 +284,9 @@ mod tests {
         };
         assert_eq!(with(|role| role == Role::Fixed("LFPD")), [("0000", 2)]);
         assert_eq!(with(|role| role == Role::Fixed("Brasil")), [("0000", 16)]);
-        let marks = ["0001", "C001", "E001", "F001", "G001", "H001", "9001"];
+        let marks = ["0001", "C001", "E001", "F001", "G001", "H001", "8001", "9001"];
         assert_eq!(with(|role| role == Role::Mark), marks.map(|code| (code, 2)));
-        let counts = ["0990", "C990", "E990", "F990", "G990", "H990", "9990", "9999"];
+        let counts = ["0990", "C990", "E990", "F990", "G990", "H990", "8990", "9990", "9999"];
         assert_eq!(with(|role| role == Role::Count), counts.map(|code| (code, 2)));
     }
 
@@ -278,6 +299,15 @@ mod tests {
         // H020's IND_DT is none, its DT_INV is one
         let h020 = row_with_code(b"H020").unwrap();
         assert_eq!((kind(h020, 2).role, kind(h020, 3).role), (Role::Plain, Role::Date));
+        // nor are ARQ_DT_INI and ARQ_DT_FIN; of block 8 these are all
+        let late = |row: &Row| row.block() == b'8' || row.block() == b'9';
+        let found = all_kinds().filter(|(row, _, kind)| late(row) && kind.role == Role::Date);
+        let found = found.map(|(row, field, _)| format!("{} {field}", row.code));
+        let wanted = [
+            "8020 3", "8020 4", "8100 3", "8100 4", "8160 3", "8160 4", "8300 3", "8300 4",
+            "8500 3", "8500 4", "8505 4", "8510 3", "8530 8",
+        ];
+        assert!(found.eq(wanted));
     }
 
     /// As the sheets have them, looked up by hand.
@@ -301,6 +331,8 @@ mod tests {
         }
         assert_eq!(written("F205", 4), "EQP_CNPJ N 14 -");
         assert_eq!(kind(row_with_code(b"F205").unwrap(), 4).role, Role::Plain);
+        assert_eq!(written("9020", 6), "ARQ_CNPJ N 14 -");
+        assert_eq!(written("9020", 17), "ARQ_CPF N 11 -");
     }
 
     #[test]

@@ -21,6 +21,7 @@ mod checker;
 mod shape;
 mod sheets;
 mod spot;
+mod stated;
 mod totals;
 mod verdict;
 mod wrong_byte;

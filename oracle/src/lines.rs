@@ -1,6 +1,6 @@
 //! The lines ended so far, each with its parent among the lines before it.
 
-use crate::rows::{rows, Row};
+use crate::rows::{rows, Counts, Row, ROWS};
 use crate::BAR;
 
 pub struct Line<'a> {
@@ -31,6 +31,10 @@ pub struct Lines<'a> {
 impl<'a> Lines<'a> {
     pub fn count(&self) -> usize {
         self.ended.len()
+    }
+
+    pub fn iter(&self) -> impl Iterator<Item = &Line<'a>> {
+        self.ended.iter()
     }
 
     pub fn last(&self) -> Option<&Line<'a>> {
@@ -83,8 +87,8 @@ impl<'a> Lines<'a> {
         self.last().is_some_and(|line| line.row().code == "9999")
     }
 
-    pub fn per_row(&self) -> [u64; 98] {
-        let mut counts = [0; 98];
+    pub fn per_row(&self) -> Counts {
+        let mut counts = [0; ROWS];
         self.ended.iter().for_each(|line| counts[line.row] += 1);
         counts
     }

@@ -1,12 +1,20 @@
-//! The 98 rows, typed from document 01 in its own writing
-//! (code fields/level/occurrence; openings and closings are 2/1/1).
+//! The 134 rows, typed from document 01 in its own writing
+//! (code fields/level/occurrence; openings and closings are 2/1/1). Those of
+//! block 8 and the data rows of block 9 are typed from the manual's 2.6.1 in
+//! the same writing, with S for "1/sub-apuração".
 
 use std::sync::OnceLock;
 
 /// The order of the blocks, one code letter each.
-pub const BLOCKS: [u8; 7] = *b"0CEFGH9";
+pub const BLOCKS: [u8; 8] = *b"0CEFGH89";
 
-const WRITTEN: [&str; 7] = [
+/// How many rows there are.
+pub const ROWS: usize = 134;
+
+/// A number for each row.
+pub type Counts = [u64; ROWS];
+
+const WRITTEN: [&str; BLOCKS.len()] = [
     "0000 20/0/1; 0001; 0005 14/2/1; 0025 3/2/N; 0030 18/2/1; 0100 18/2/1; 0150 13/2/N; \
      0175 10/3/1; 0200 5/2/N; 0205 5/3/N; 0210 9/3/N; 0215 4/3/N; 0400 4/2/N; 0450 3/2/N; \
      0455 2/3/N; 0460 16/3/N; 0465 24/3/N; 0470 11/3/N; 0990",
@@ -23,7 +31,12 @@ const WRITTEN: [&str; 7] = [
     "G001; G020 4/2/P; G025 17/3/N; G030 11/3/N; G050 19/3/N; G400 10/3/N; G410 14/3/N; \
      G420 24/3/P; G430 3/3/N; G440 7/3/N; G450 15/3/N; G460 15/4/N; G990",
     "H001; H020 12/2/P; H030 16/3/N; H040 3/3/N; H050 3/3/N; H060 3/3/N; H990",
-    "9001; 9990; 9999 2/0/1",
+    "8001 3/1/1; 8020 4/2/P; 8030 11/3/N; 8040 8/3/N; 8050 4/3/1; 8100 4/2/P; 8110 6/3/N; \
+     8160 4/2/P; 8165 6/3/P; 8170 7/4/N; 8175 5/4/N; 8180 6/5/N; 8300 4/2/P; 8310 10/3/N; \
+     8500 4/2/P; 8505 6/3/N; 8510 4/4/N; 8515 2/4/N; 8525 7/5/N; 8530 11/3/N; \
+     8535 9/4/990; 8540 8/4/N; 8545 4/3/S; 8550 4/4/N; 8555 4/4/N; 8560 12/4/S; 8565 3/5/N; \
+     8570 12/4/S; 8580 10/4/S; 8585 5/5/4; 8590 15/4/S; 8990",
+    "9001; 9020 21/2/N; 9030 3/3/N; 9040 12/3/N; 9900 3/2/N; 9990; 9999 2/0/1",
 ];
 
 #[derive(Clone, Debug)]
@@ -60,7 +73,7 @@ impl Row {
     }
 }
 
-/// All 98 rows in the order of document 01.
+/// All rows in the order of document 01.
 pub fn rows() -> &'static [Row] {
     static ROWS: OnceLock<Vec<Row>> = OnceLock::new();
     ROWS.get_or_init(read_rows)
@@ -85,8 +98,9 @@ fn read_row(entry: &str) -> Row {
     let parts: Vec<&str> = numbers.split('/').collect();
     let level = parts[1].parse().unwrap();
     let limit = match (parts[2], level) {
-        ("N", _) | ("P", 2) => None,
-        ("P", 3) => Some(1),
+        // any number where the period or sub-apuration is opened, one beneath it
+        ("N", _) | ("P", 2) | ("S", 3) => None,
+        ("P", 3) | ("S", 4) => Some(1),
         (number, _) => Some(number.parse().unwrap()),
     };
     let fields = parts[0].parse().unwrap();
@@ -111,9 +125,11 @@ mod tests {
     }
 
     #[test]
-    fn there_are_98_rows_with_995_fields() {
-        assert_eq!(rows().len(), 98);
-        assert_eq!(rows().iter().map(|row| row.fields).sum::<usize>(), 995);
+    fn there_are_134_rows_with_1238_fields() {
+        assert_eq!((rows().len(), ROWS), (134, 134));
+        assert_eq!(rows().iter().map(|row| row.fields).sum::<usize>(), 1238);
+        let of_block = |block: u8| rows().iter().filter(|row| row.block() == block).count();
+        assert_eq!(BLOCKS.map(of_block), [19, 13, 28, 15, 13, 7, 32, 7]);
     }
 
     #[test]
@@ -122,6 +138,50 @@ mod tests {
         assert_eq!(parent_of("F230"), "F220");
         assert_eq!(parent_of("E340"), "E300");
         assert_eq!(parent_of("0005"), "0001");
+    }
+
+    /// Looked up in 2.6.1 by hand, every row of block 8 and of block 9.
+    #[test]
+    fn parents_in_blocks_8_and_9() {
+        for (parent, children) in [
+            ("8001", "8020 8100 8160 8300 8500"),
+            ("8020", "8030 8040 8050"),
+            ("8100", "8110"),
+            ("8160", "8165"),
+            ("8165", "8170 8175"),
+            ("8175", "8180"),
+            ("8300", "8310"),
+            ("8500", "8505 8530 8545"),
+            ("8505", "8510 8515"),
+            ("8515", "8525"),
+            ("8530", "8535 8540"),
+            ("8545", "8550 8555 8560 8570 8580 8590"),
+            ("8560", "8565"),
+            ("8580", "8585"),
+            ("9001", "9020 9900"),
+            ("9020", "9030 9040"),
+        ] {
+            let found = rows().iter().filter(|row| row.is_data() && parent_of(&row.code) == parent);
+            assert!(found.map(|row| row.code.as_str()).eq(children.split(' ')), "{parent}");
+        }
+    }
+
+    /// All rows of block 8 and 9 that may not come any number of times.
+    #[test]
+    fn limits_in_blocks_8_and_9() {
+        let late = |row: &&Row| row.is_data() && (row.block() == b'8' || row.block() == b'9');
+        let limited = rows().iter().filter(late).filter_map(|row| Some((&row.code[..], row.limit?)));
+        let wanted = [
+            ("8050", 1),
+            ("8165", 1),
+            ("8535", 990),
+            ("8560", 1),
+            ("8570", 1),
+            ("8580", 1),
+            ("8585", 4),
+            ("8590", 1),
+        ];
+        assert!(limited.eq(wanted));
     }
 
     #[test]

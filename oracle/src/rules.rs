@@ -1,6 +1,6 @@
 //! All rules a byte can break, in the order of their numbers. Of those that
-//! speak of the bar after a field, request h puts 24 after 12. Request e has 2
-//! and 10 say which byte of the field it is.
+//! speak of the bar after a field, request h puts 24 after 12 and request f 23
+//! after 13. Request e has 2 and 10 say which byte of the field it is.
 
 use crate::content::{
     first_wrong_byte, untrue_count, wrong_characters, wrong_check_digit, wrong_size, wrong_value,
@@ -8,10 +8,11 @@ use crate::content::{
 use crate::place::{against_opening, one_too_many, out_of_place, unknown_code};
 use crate::shape::{bad_line_end, control_byte, field_too_many, fields_missing, no_first_bar};
 use crate::spot::Spot;
+use crate::stated::untrue_statement;
 
 type Rule = fn(&Spot) -> Option<usize>;
 
-const RULES: [(u8, Rule); 14] = [
+const RULES: [(u8, Rule); 15] = [
     (1, no_first_bar),
     (2, control_byte),
     (3, unknown_code),
@@ -25,6 +26,7 @@ const RULES: [(u8, Rule); 14] = [
     (11, wrong_size),
     (12, wrong_value),
     (13, untrue_count),
+    (23, untrue_statement),
     (24, wrong_check_digit),
 ];
 

@@ -2,7 +2,7 @@
 //! every field after the first. Where a sheet's description says otherwise
 //! than its columns, the columns are typed. There is no sheet for C305.
 
-pub const SHEETS: [(&str, &str); 97] = [
+pub const SHEETS: [(&str, &str); 133] = [
     (
         "0000",
         "LFPD C 4 -; DT_INI N 8 -; DT_FIN N 8 -; NOME_EMPR C - -; CNPJ N 14 -; UF C 2 -; \
@@ -385,7 +385,105 @@ pub const SHEETS: [(&str, &str); 97] = [
     ("H050", "IND_ITEM N 1 -; VL_SUB_ITEM N - 2"),
     ("H060", "COD_NCM N 8 -; VL_SUB_NCM N - 2"),
     ("H990", "QTD_LIN_H N - -"),
+    ("8001", "IND_DAD N 1 -; UF C 2 -"),
+    ("8020", "IND_QVA N 1 -; DT_INI N 8 -; DT_FIN N 8 -"),
+    (
+        "8030",
+        "IND_TOT N 1 -; IND_OPER N 1 -; IND_DET N 1 -; COD_MUN N 7 -; VL_CONT_MUN N - 2; \
+         VL_OP_ISS_MUN N - 2; VL_ICMS_ST_MUN N - 2; VL_TE_MUN N - 2; VL_TS_MUN N - 2; \
+         VL_AD_MUN N - 4",
+    ),
+    (
+        "8040",
+        "IND_CFOP N 1 -; VL_CONT N - 2; VL_OP_ISS N - 2; CFOP N 4 -; VL_ICMS_ST N - 2; \
+         VL_TE_CFOP N - 2; VL_TS_CFOP N - 2",
+    ),
+    ("8050", "VL_TE N - 2; VL_TS N - 2; VL_AD N - 4"),
+    ("8100", "IND_QAB N 1 -; DT_INI N 8 -; DT_FIN N 8 -"),
+    ("8110", "IND_ORIG N 1 -; VL_EEL N - 2; VL_COM N - 2; VL_ATV N - 2; VL_OUT N - 2"),
+    // its last column has the numbers of the fields once more, and no decimals
+    ("8160", "IND_QCA N 1 -; DT_INI N 8 -; DT_FIN N 8 -"),
+    ("8165", "VL_REM N - 2; VL_ACUM N - 2; VL_PU N - 2; VL_TUT N - 2; VL_SLD N - 2"),
+    (
+        "8170",
+        "VL_CA_EX N - 2; VL_CA_OS N - 2; NUM_PROC C - -; IND_PROC N 1 -; DESCR_PROC C - -; \
+         COMENT C - -",
+    ),
+    ("8175", "IND_UT N 1 -; VL_UT N - 2; IE C - -; COMENT C - -"),
+    ("8180", "IND_CD N 1 -; VL_DEB N - 2; COD_REC C - -; IE C - -; COMENT C - -"),
+    ("8300", "IND_QCC N 1 -; DT_INI N 8 -; DT_FIN N 8 -"),
+    (
+        "8310",
+        "IND_CC N 1 -; COD_CONS N 2 -; VL_CONT N - 2; VL_OP_ISS N - 2; VL_ICMS_ST N - 2; \
+         VL_BC_ICMS N - 2; VL_ICMS N - 2; VL_ISNT_ICMS N - 2; VL_OUT_ICMS N - 2",
+    ),
+    ("8500", "IND_GIAF N 1 -; DT_INI N 8 -; DT_FIN N 8 -"),
+    ("8505", "IND_BF N 1 -; DE_BF N 5 -; DT_BF N 8 -; IND_NAT N - -; IND_ICMS_MIN N 1 -"),
+    ("8510", "DE_BF_AJ N 5 -; DT_BF_AJ N 8 -; IND_NAT_AJ N - -"),
+    ("8515", "IND_AP N - -"),
+    (
+        "8525",
+        "COD_ITEM C - -; DESCR_ITEM C - -; NBMSH N 10 -; UNID C - -; PCT_BF N - 2; PRZ_BF N 4 -",
+    ),
+    (
+        "8530",
+        "IND_OPER N 1 -; IND_EMIT N 1 -; COD_PART C - -; COD_MOD C 2 -; SER C - -; \
+         NUM_DOC N - -; DT_DOC N 8 -; VL_CONT N - 2; VL_BC_ICMS N - 2; VL_ICMS N - 2",
+    ),
+    (
+        "8535",
+        "NUM_ITEM N - -; COD_ITEM C - -; CFOP N 4 -; VL_BC_ICMS_I N - 2; ALIQ_ICMS N - 2; \
+         VL_ICMS_I N - 2; IND_AP N - -; IND_ESP N - -",
+    ),
+    (
+        "8540",
+        "VL_CONT_P N - 2; CFOP N 4 -; VL_BC_ICMS_P N - 2; ALIQ_ICMS N - 2; VL_ICMS_P N - 2; \
+         IND_AP N - -; IND_ESP N - -",
+    ),
+    ("8545", "COD_BF_ICMS C 5 -; IND_AP N - -; IND_ESP N - -"),
+    ("8550", "VL_CONT N - 2; CFOP N 4 -; VL_ICMS N - 2"),
+    ("8555", "IND_INC N 2 -; VL_CONT N - 2; VL_ICMS N - 2"),
+    (
+        "8560",
+        "VL_01 N - 2; VL_05 N - 2; VL_06 N - 2; VL_07 N - 2; VL_08 N - 2; VL_09 N - 2; \
+         VL_10 N - 2; VL_11 N - 2; VL_12 N - 2; VL_13 N - 2; VL_14 N - 2",
+    ),
+    ("8565", "COD_AJ N 3 -; VL_AJ N - 2"),
+    (
+        "8570",
+        "G1_01 N - 2; G1_02 N - 2; G1_03 N - 2; G1_04 N - 2; G1_05 N - 2; G1_06 N - 2; \
+         G1_07 N - 2; G1_08 N - 2; G1_09 N - 2; G1_10 N - 2; G1_11 N - 2",
+    ),
+    (
+        "8580",
+        "G3_01 N - 2; G3_02 N - 2; G3_03 N - 2; G3_04 N - 2; G3_05 N - 2; G3_06 N - 2; \
+         G3_07 N - 2; G3_08 N - 2; G3_09 N - 2",
+    ),
+    ("8585", "IND_FX N 1 -; G3_10 N - 2; G3_11 N - 2; G3_12 N - 2"),
+    (
+        "8590",
+        "G4_01 N - 2; G4_02 N - 2; G4_03 N - 2; G4_04 N - 2; G4_05 N - 2; G4_06 N - 2; \
+         G4_07 N - 2; G4_08 N - 2; G4_09 N - 2; G4_10 N - 2; G4_11 N - 2; G4_12 N - 2; \
+         G4_13 N - 2; G4_14 N - 2",
+    ),
+    ("8990", "QTD_LIN_8 N - -"),
     ("9001", "IND_DAD N 1 -"),
+    (
+        "9020",
+        "LEIAUTE C 4 -; ARQ_DT_INI N 8 -; ARQ_DT_FIN N 8 -; ARQ_NOME_EMPR C - -; \
+         ARQ_CNPJ N 14 -; ARQ_UF C 2 -; ARQ_IE C 14 -; ARQ_COD_MUN N 7 -; ARQ_IM C - -; \
+         VAZIO C 0 -; ARQ_SUFRAMA C 9 -; ARQ_COD_VER N 4 -; ARQ_COD_FIN N 1 -; \
+         ARQ_COD_CTD N 2 -; ARQ_PAIS C 6 -; ARQ_CPF N 11 -; ARQ_FANTASIA C - -; \
+         ARQ_QTD_LIN N - -; ARQ_NOME C - -; ASS_HASH C 128 -",
+    ),
+    ("9030", "ARQ_LIN_BLC C 4 -; ARQ_QTD_LIN_BLC N - -"),
+    (
+        "9040",
+        "ARQ_CERT_AC C - -; ARQ_CERT_SER C - -; ARQ_CERT_EXP_DT N 8 -; ARQ_CERT_EXP_HR N 8 -; \
+         ARQ_ALG C - -; ARQ_DT N 8 -; ARQ_HR N 8 -; ARQ_SIGN C - -; COD_ASSIN N 3 -; \
+         ARQ_CERT C 65536 -; ARQ_ASS C 65536 -",
+    ),
+    ("9900", "LIN_BLC C 4 -; QTD_LIN_BLC N - -"),
     ("9990", "QTD_LIN_9 N - -"),
     ("9999", "QTD_LIN N - -"),
 ];

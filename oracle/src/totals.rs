@@ -6,8 +6,8 @@ use crate::rows::BLOCKS;
 /// In the order of the blocks.
 pub type Totals = [u64; BLOCKS.len()];
 
-/// A line is of the block whose letter its code begins with. The 98 counts are
-/// not added up, so that they are another way to the same numbers.
+/// A line is of the block whose letter its code begins with. The rows' counts
+/// are not added up, so that they are another way to the same numbers.
 pub fn block_totals(lines: &Lines) -> Totals {
     BLOCKS.map(|block| lines.letters().filter(|&letter| letter == block).count() as u64)
 }
@@ -42,7 +42,6 @@ mod tests {
             let totals = held_to_another_way(&bytes);
             (0..most.len()).for_each(|block| most[block] = totals[block].max(most[block]));
         }
-        // 9001, 9990 and 9999 are all that block 9 can have
-        assert!(most[6] == 3 && most[..6].iter().all(|&total| total > 20), "{most:?}");
+        assert!(most.iter().all(|&total| total > 20), "{most:?}");
     }
 }

@@ -1,6 +1,7 @@
 //! The verdict of the bytes received so far, and the final one.
 
 use crate::lines::Lines;
+use crate::rows::Counts;
 use crate::rules::{broken_rule, Broken};
 use crate::spot::LineAtHand;
 use crate::totals::{block_totals, Totals};
@@ -34,8 +35,8 @@ pub fn finish(bytes: &[u8]) -> Final {
     judgement(bytes).at_finish
 }
 
-/// Lines ended so far for each of the 98 rows.
-pub fn counts(bytes: &[u8]) -> [u64; 98] {
+/// Lines ended so far for each of the rows.
+pub fn counts(bytes: &[u8]) -> Counts {
     judgement(bytes).counts
 }
 
@@ -49,7 +50,7 @@ pub fn totals(bytes: &[u8]) -> Totals {
 pub struct Judgement {
     pub verdict: Verdict,
     pub at_finish: Final,
-    pub counts: [u64; 98],
+    pub counts: Counts,
     pub totals: Totals,
 }
 
@@ -137,8 +138,8 @@ mod tests {
     fn totals_at_the_byte_too_many() {
         let line = format!("|0000|LFPD{}Brasil|||||\r\n", "|".repeat(14)).into_bytes();
         let totals = |limit: usize| block_totals(&judge(&line, limit as u64).lines);
-        assert_eq!(totals(line.len() + 1), [1, 0, 0, 0, 0, 0, 0]);
-        assert_eq!(totals(line.len()), [0; 7]);
+        assert_eq!(totals(line.len() + 1), [1, 0, 0, 0, 0, 0, 0, 0]);
+        assert_eq!(totals(line.len()), [0; 8]);
         let refused = verdict_within(&line, line.len() as u64);
         assert!(matches!(refused, Verdict::Refused { number: 16, lines: 0, .. }));
     }

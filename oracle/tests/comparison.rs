@@ -8,8 +8,8 @@ use std::process::{Command, Output};
 const STAND_IN: &str = env!("CARGO_BIN_EXE_stand-in");
 
 /// Enough cases for all files that come first: the known ones, those of each
-/// kind and those with some 990 C300.
-const SHORT_RUN: &str = "550";
+/// kind and those with some 990 lines of a row.
+const SHORT_RUN: &str = "720";
 
 /// Faults that only the longest files show, so that a short run passes.
 const SEEN_IN_LONG_RUNS: [&str; 3] =
@@ -74,7 +74,7 @@ fn the_oracle_equals_itself() {
     let text = text(&output);
     assert!(output.status.success(), "{text}");
     let last = text.lines().last().unwrap_or_default();
-    assert!(last.starts_with("compare: 42000 cases, ") && last.ends_with(" answers, all equal"));
+    assert!(last.starts_with("compare: 55000 cases, ") && last.ends_with(" answers, all equal"));
     assert!(text.contains("  N with 2 decimals ") && text.contains("  C at most 65536 "), "{text}");
     assert!(text.contains("  cnpj ") && text.contains("  cpf "), "{text}");
     assert!(!keep.exists());
@@ -92,7 +92,7 @@ fn the_checker_without_a_fault_is_equal() {
 /// The number of cases from which it is asked comes from the plan.
 #[test]
 fn short_runs_say_what_they_did_not_show() {
-    let output = compare(STAND_IN, &kept("short"), &["--cases", "180"]);
+    let output = compare(STAND_IN, &kept("short"), &["--cases", "300"]);
     let said = text(&output);
     assert!(output.status.success() && said.contains("not shown: N of 5 digits never"), "{said}");
     let (_, rest) = said.split_once("a short run: from ").expect("it says so");
@@ -143,7 +143,7 @@ fn faults_that_long_runs_show() {
 #[test]
 fn kinds_that_do_not_come_up_are_named() {
     let program = format!("{STAND_IN} any-volume");
-    let output = compare(&program, &kept("any-volume-named"), &["--cases", "600"]);
+    let output = compare(&program, &kept("any-volume-named"), &["--cases", "720"]);
     assert_eq!(output.status.code(), Some(1));
     let text = text(&output);
     assert!(text.contains("FAILURE: N with 3 decimals never refused by 10"), "{text}");
@@ -154,7 +154,7 @@ fn kinds_that_do_not_come_up_are_named() {
 fn check_digits_that_are_never_refused_are_named() {
     for (fault, named) in [("any-check-digits", "cnpj"), ("any-check-digits-in-cpf", "cpf")] {
         let program = format!("{STAND_IN} {fault}");
-        let output = compare(&program, &kept(&format!("{fault}-named")), &["--cases", "600"]);
+        let output = compare(&program, &kept(&format!("{fault}-named")), &["--cases", "720"]);
         assert_eq!(output.status.code(), Some(1));
         let text = text(&output);
         assert!(text.contains(&format!("FAILURE: {named} never refused by 24")), "{text}");
@@ -167,7 +167,7 @@ fn check_digits_that_are_never_refused_are_named() {
 fn kept_cases_show_the_fault() {
     let keep = kept("shown");
     let program = format!("{STAND_IN} wraps-32");
-    let output = compare(&program, &keep, &["--cases", "600"]);
+    let output = compare(&program, &keep, &["--cases", "720"]);
     let text = text(&output);
     for part in
         ["DIFFERENCE in case", "seed of the case", "  >> ", "P ", "expected: refused 13", "got: "]
@@ -221,7 +221,7 @@ fn stored(seed_and_count: [&str; 2], keep: &Path, name: &str) -> (PathBuf, Vec<u
 }
 
 fn assert_all_numbers(answers: &str) {
-    for number in (1..=15).chain([17, 18, 24]) {
+    for number in (1..=15).chain([17, 18, 23, 24]) {
         assert!(answers.contains(&format!("\nrefused {number} ")), "{number}");
     }
     assert!(answers.contains("\naccepted "));
@@ -242,7 +242,7 @@ fn stored_batches() {
     for line in text.lines() {
         let (_, totals) = line.split_once(" totals ").expect("every answer has them");
         let are_numbers = totals.split(' ').all(|total| total.parse::<u64>().is_ok());
-        assert!(are_numbers && totals.split(' ').count() == 7, "{line}");
+        assert!(are_numbers && totals.split(' ').count() == 8, "{line}");
     }
 }
 

@@ -1,7 +1,7 @@
 //! What the generator must bring, and what holds of every verdict.
 
 use oracle::generate::{case, small_case};
-use oracle::rows::{rows, BLOCKS};
+use oracle::rows::{rows, BLOCKS, ROWS};
 use oracle::{counts, finish, totals, verdict, Final, Totals, Verdict, LF};
 use std::collections::{BTreeMap, BTreeSet};
 
@@ -19,7 +19,7 @@ fn every_refusal_in_a_few_hundred_small_cases() {
             .map(|seed| refusal_number(finish(&small_case(start * 1_000_000 + seed).bytes)))
             .collect();
         let seen: BTreeSet<u8> = numbers.iter().copied().collect();
-        assert_eq!(seen, (0..=15).chain([24]).collect(), "seeds from {start} million");
+        assert_eq!(seen, (0..=15).chain([23, 24]).collect(), "seeds from {start} million");
         let good = numbers.iter().filter(|&&number| number == 0).count();
         // a third on the whole, so that 160 is passed now and then
         assert!((80..=200).contains(&good), "{good} of 400 accepted");
@@ -27,17 +27,17 @@ fn every_refusal_in_a_few_hundred_small_cases() {
 }
 
 #[test]
-fn all_98_rows_in_accepted_small_cases() {
-    let mut seen = [0; 98];
+fn all_rows_in_accepted_small_cases() {
+    let mut seen = [0; ROWS];
     for seed in 0..6000 {
         let bytes = small_case(seed).bytes;
         if refusal_number(finish(&bytes)) == 0 {
             let counts = counts(&bytes);
-            (0..98).for_each(|row| seen[row] += counts[row]);
+            (0..ROWS).for_each(|row| seen[row] += counts[row]);
         }
     }
     let absent: Vec<&str> =
-        (0..98).filter(|&row| seen[row] == 0).map(|row| rows()[row].code.as_str()).collect();
+        (0..ROWS).filter(|&row| seen[row] == 0).map(|row| rows()[row].code.as_str()).collect();
     assert!(absent.is_empty(), "never accepted: {absent:?}");
 }
 
@@ -51,9 +51,9 @@ fn block_at_hand(bytes: &[u8]) -> Option<usize> {
 /// are refused or cut off.
 #[test]
 fn mixtures_of_blocks_in_small_cases() {
-    let mut accepted: BTreeMap<[bool; 7], usize> = BTreeMap::new();
+    let mut accepted: BTreeMap<[bool; 8], usize> = BTreeMap::new();
     let mut different: BTreeSet<Totals> = BTreeSet::new();
-    let (mut refused, mut cut_off) = ([0; 7], [0; 7]);
+    let (mut refused, mut cut_off) = ([0; 8], [0; 8]);
     for seed in 0..20_000 {
         let bytes = small_case(seed).bytes;
         let totals = totals(&bytes);
@@ -71,9 +71,9 @@ fn mixtures_of_blocks_in_small_cases() {
             }
         }
     }
-    assert_eq!(accepted.len(), 32);
-    assert!(accepted.values().all(|&files| files >= 10), "{accepted:?}");
-    assert!(accepted[&[true; 7]] > 200, "{accepted:?}");
+    assert_eq!(accepted.len(), 64);
+    assert!(accepted.values().all(|&files| files >= 5), "{accepted:?}");
+    assert!(accepted[&[true; 8]] > 100, "{accepted:?}");
     assert!(different.len() > 500, "{}", different.len());
     assert!(refused.iter().all(|&files| files > 300), "{refused:?}");
     assert!(cut_off.iter().all(|&files| files > 5), "{cut_off:?}");
@@ -107,7 +107,7 @@ fn every_row_over_its_limit_is_met() {
             *over.entry(row as u64).or_default() += 1;
         }
     }
-    let limited = rows().iter().filter(|row| row.is_data() && row.limit == Some(1)).count();
+    let limited = rows().iter().filter(|row| row.is_data() && row.limit.is_some_and(|limit| limit < 5)).count();
     assert_eq!(over.len(), limited);
 }
 

@@ -48,7 +48,7 @@ fn bytes_in_a_field() {
 
 #[test]
 fn codes() {
-    for code in ["0", "00000", "9020", "8001", "c001", "0001 ", ""] {
+    for code in ["0", "00000", "9021", "8002", "c001", "0001 ", ""] {
         last_byte_refused(&second_line(format!("|{code}|").as_bytes()), 3, 2, 1);
     }
     let long = [b"|".to_vec(), vec![b'0'; 5000], b"|".to_vec()].concat();

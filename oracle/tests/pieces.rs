@@ -45,11 +45,11 @@ fn pieces_of_generated_files() {
         assert_eq!(checker.piece(b"|"), AFTER_FINISH);
         assert_eq!(checker.piece(b""), AFTER_FINISH);
         assert_eq!(checker.finish(), AFTER_FINISH);
-        let mut room = [7; 100];
+        let mut room = [7; 136];
         let numbers = of_verdict(verdict(&bytes)).lines_and_bytes();
         assert_eq!(checker.report(&mut room), Ok(numbers));
-        assert_eq!(room[..98], counts(&bytes));
-        assert_eq!(room[98..], [7, 7]);
+        assert_eq!(room[..134], counts(&bytes));
+        assert_eq!(room[134..], [7, 7]);
     }
 }
 
@@ -136,10 +136,10 @@ fn finish_that_gave_14_is_still_a_finish() {
 fn report_with_too_little_room() {
     let mut checker = Checker::default();
     checker.piece(&file(&BASE[..2]));
-    let mut room = [7; 97];
+    let mut room = [7; 133];
     let too_little = refusal(18, 0, 0, 0, 0);
     assert_eq!(checker.report(&mut room), Err(too_little));
-    assert_eq!(room, [7; 97]);
+    assert_eq!(room, [7; 133]);
     assert_eq!(checker.piece(b""), Answer::Open { lines: 2, bytes: file(&BASE[..2]).len() as u64 });
 }
 
@@ -161,7 +161,7 @@ fn numbers_of_reports() {
         (&base, (6, 110)),
     ] {
         let mut checker = Checker::default();
-        let mut room = [0; 98];
+        let mut room = [0; 134];
         checker.piece(bytes);
         assert_eq!(checker.report(&mut room), Ok(numbers));
         checker.finish();

@@ -6,7 +6,7 @@ use oracle::generate::{case, pieces, small_case};
 use oracle::rows::{rows, BLOCKS};
 use oracle::{counts, finish, totals, verdict, Answer, Checker, Final, Totals, Verdict};
 
-const NONE: Totals = [0; 7];
+const NONE: Totals = [0; 8];
 
 /// Base with a line of block C and two of H, then the end of block 9.
 fn with_c_and_h() -> Vec<u8> {
@@ -20,10 +20,10 @@ fn with_c_and_h() -> Vec<u8> {
 #[test]
 fn totals_are_in_the_order_of_the_blocks() {
     assert_eq!(totals(b""), NONE);
-    assert_eq!(totals(&file(&BASE)), [3, 0, 0, 0, 0, 0, 3]);
+    assert_eq!(totals(&file(&BASE)), [3, 0, 0, 0, 0, 0, 0, 3]);
     let bytes = with_c_and_h();
     accepted(&bytes, 13);
-    assert_eq!(totals(&bytes), [3, 3, 0, 0, 0, 4, 3]);
+    assert_eq!(totals(&bytes), [3, 3, 0, 0, 0, 4, 0, 3]);
 }
 
 /// 0000 is a line of block 0 and 9999 of block 9; each counts with its LF.
@@ -32,7 +32,7 @@ fn lines_of_base_one_by_one() {
     let wanted = [(1, 0), (2, 0), (3, 0), (3, 1), (3, 2), (3, 3)];
     for (lines, (in_0, in_9)) in (1..).zip(wanted) {
         let bytes = file(&BASE[..lines]);
-        assert_eq!(totals(&bytes), [in_0, 0, 0, 0, 0, 0, in_9]);
+        assert_eq!(totals(&bytes), [in_0, 0, 0, 0, 0, 0, 0, in_9]);
         let before = totals(&file(&BASE[..lines - 1]));
         for missing in 1..=5 {
             assert_eq!(totals(&bytes[..bytes.len() - missing]), before);
@@ -57,9 +57,9 @@ fn a_refused_line_is_not_counted() {
     ] {
         let bytes = base_with(3, line);
         assert!(matches!(verdict(&bytes), Verdict::Refused { number: by, .. } if by == number));
-        assert_eq!(totals(&bytes), [2, 0, 0, 0, 0, 0, 0], "{number}");
+        assert_eq!(totals(&bytes), [2, 0, 0, 0, 0, 0, 0, 0], "{number}");
     }
-    assert_eq!(totals(&[file(&BASE), b"|9999|7|\r\n".to_vec()].concat()), [3, 0, 0, 0, 0, 0, 3]);
+    assert_eq!(totals(&[file(&BASE), b"|9999|7|\r\n".to_vec()].concat()), [3, 0, 0, 0, 0, 0, 0, 3]);
 }
 
 /// A byte raises one total by one if it is an LF that is not refused, that of
@@ -127,7 +127,7 @@ fn totals_of_pieces() {
             joined.extend_from_slice(&piece);
             checker.piece(&piece);
             assert_eq!(checker.totals(), totals(&joined));
-            assert!(checker.report(&mut [0; 97]).is_err());
+            assert!(checker.report(&mut [0; 133]).is_err());
             assert_eq!(checker.totals(), totals(&joined));
         }
         let wanted = totals(&bytes);
@@ -137,7 +137,7 @@ fn totals_of_pieces() {
         assert_eq!(checker.totals(), wanted);
         assert_eq!(checker.finish(), Answer::misuse(17));
         assert_eq!(checker.totals(), wanted);
-        assert!(checker.report(&mut [0; 98]).is_ok());
+        assert!(checker.report(&mut [0; 134]).is_ok());
         assert_eq!(checker.totals(), wanted);
     }
 }
@@ -170,17 +170,22 @@ fn totals_of_a_file_with_all_rows() {
     let mut lines = vec![BASE[0].to_string()];
     for block in BLOCKS {
         let data = rows().iter().filter(|row| row.block() == block && row.is_data());
-        let data: Vec<String> = data.map(|row| bare(&row.code, row.fields)).collect();
+        let mut data: Vec<String> = data.map(|row| bare(&row.code, row.fields)).collect();
+        if block == b'9' {
+            // what it states must be true
+            data[3] = "|9900|C300|1|".to_string();
+        }
         let letter = block as char;
         // 0000 and 9999 are beside opening and closing
         let count = data.len() + 2 + usize::from(block == b'0' || block == b'9');
-        lines.push(format!("|{letter}001|{}|", usize::from(data.is_empty())));
+        let more = if block == b'8' { "|" } else { "" };
+        lines.push(format!("|{letter}001|0|{more}"));
         lines.extend(data);
         lines.push(format!("|{letter}990|{count}|"));
     }
     lines.push(format!("|9999|{}|", lines.len() + 1));
     let bytes = written(&lines);
-    accepted(&bytes, 98);
-    assert_eq!(counts(&bytes), [1; 98]);
-    assert_eq!(totals(&bytes), [19, 13, 28, 15, 13, 7, 3]);
+    accepted(&bytes, 134);
+    assert_eq!(counts(&bytes), [1; 134]);
+    assert_eq!(totals(&bytes), [19, 13, 28, 15, 13, 7, 32, 7]);
 }

@@ -24,6 +24,8 @@ pub enum Feed {
     ThroughField,
     /// Whole, then cut at all that a line could be counted at.
     ThroughLines,
+    /// Cut at every byte of its 9900 lines and of 9999.
+    ThroughStatements,
 }
 
 /// A file fed in a case, and what it is about.
@@ -70,14 +72,20 @@ pub fn bare(code: &str) -> String {
     format!("|{code}{}", "|".repeat(rows()[row].fields))
 }
 
+/// The opening of a block with this mark; that of block 8 has a field more.
+pub fn opening(block: char, mark: &str) -> String {
+    let row = row_with_code(format!("{block}001").as_bytes()).expect("a known block");
+    format!("|{block}001|{mark}{}", "|".repeat(rows()[row].fields - 1))
+}
+
 /// A file that ends after these lines of a block, its opening saying 0.
 pub fn block_start(codes: &[&str]) -> Vec<u8> {
-    let block = &codes[0][..1];
+    let block = codes[0].chars().next().expect("a code");
     let mut lines = vec![BASE[0].to_string()];
-    if block != "0" {
+    if block != '0' {
         lines.extend([BASE[1].to_string(), BASE[2].to_string()]);
     }
-    lines.push(format!("|{block}001|0|"));
+    lines.push(opening(block, "0"));
     lines.extend(codes.iter().map(|code| bare(code)));
     written(&lines)
 }
@@ -101,6 +109,12 @@ mod tests {
         assert_eq!(finish(&base()), Final::Accepted { lines: 6, bytes: 110 });
         assert_eq!(base_field(3, 2, b"3"), base());
         assert_eq!(base_with(2, b"|0001|1|\r\n"), base());
+    }
+
+    #[test]
+    fn openings() {
+        assert_eq!(opening('9', "0"), "|9001|0|");
+        assert_eq!(opening('8', "1"), "|8001|1||");
     }
 
     #[test]

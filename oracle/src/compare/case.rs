@@ -3,10 +3,16 @@
 use super::base::{Feed, File};
 use super::chance::{chance_file, small_file};
 use super::command::Command;
-use super::cuts::{cut_file, cut_simply, cut_through_field, cut_through_lines};
+use super::cuts::{
+    cut_file, cut_simply, cut_through_field, cut_through_lines, cut_through_statements,
+};
 use super::feed::commands;
-use super::sweep::{swept_files, Swept};
+use super::sweep::Swept;
 use crate::generate::Random;
+
+/// The longest of the swept files in a stored run; one with all blocks, of no
+/// two as many lines, takes as much.
+const SMALL_FILE: usize = 500;
 
 pub struct Case {
     pub number: usize,
@@ -15,7 +21,7 @@ pub struct Case {
     pub commands: Vec<Command>,
 }
 
-/// What cases there are: two of three are of the swept files as long as they
+/// What cases there are: three of four are of the swept files as long as they
 /// last, all others come by chance.
 pub struct Plan {
     seed: u64,
@@ -24,13 +30,12 @@ pub struct Plan {
 
 impl Plan {
     pub fn new(seed: u64) -> Self {
-        let swept = swept_files(&mut mixed(seed));
-        Plan { seed, swept }
+        Plan { seed, swept: Swept::new(mixed(seed)) }
     }
 
     /// How many cases it takes to have all swept files among them.
     pub fn full(&self) -> usize {
-        cases_for(self.swept.files.len())
+        cases_for(self.swept.count())
     }
 
     /// How many cases it takes for every kind of field to come up.
@@ -40,8 +45,19 @@ impl Plan {
 
     /// The swept file of a case, if it has one.
     fn swept(&self, number: usize) -> Option<&File> {
-        let place = number / 3 * 2 + number % 3;
-        self.swept.files.get(place).filter(|_| number % 3 < 2)
+        let place = number / 4 * 3 + number % 4;
+        if number % 4 == 3 {
+            return None;
+        }
+        self.swept.get(place)
+    }
+
+    /// The numbers of the cases with a swept file of more than so many bytes.
+    pub fn cases_longer_than(&self, bytes: usize) -> Vec<usize> {
+        let is_long = |&number: &usize| {
+            self.swept(number).is_some_and(|file| file.bytes.len() > bytes)
+        };
+        (0..self.full()).filter(is_long).collect()
     }
 
     pub fn case(&self, number: usize) -> Case {
@@ -52,9 +68,9 @@ impl Plan {
             None => chance_file(&mut random),
         };
         let simple = match file.feed {
-            Feed::AtLength | Feed::ThroughField | Feed::ThroughLines => false,
             Feed::MostlyShort => random.percent(90),
             Feed::Plainly => true,
+            _ => false,
         };
         made_case(number, seed, file, random, simple)
     }
@@ -64,7 +80,7 @@ impl Plan {
         let seed = self.case_seed(number);
         let mut random = Random::from_seed(seed);
         let is_through_field = |file: &&File| file.feed == Feed::ThroughField;
-        let small = self.swept.files.iter().filter(|file| file.bytes.len() <= 400);
+        let small = self.swept.files().filter(|file| file.bytes.len() <= SMALL_FILE);
         let (positions, others): (Vec<&File>, Vec<&File>) = small.partition(is_through_field);
         let file = match number % 4 {
             0 | 2 => others[number / 2 % others.len()].clone(),
@@ -81,9 +97,9 @@ impl Plan {
 }
 
 /// How many cases it takes to have so many swept files among them, one of
-/// three being by chance.
+/// four being by chance.
 fn cases_for(files: usize) -> usize {
-    files + files.saturating_sub(1) / 2
+    files + files.saturating_sub(1) / 3
 }
 
 /// The seeds of neighbours are neighbours, so they are mixed before use.
@@ -95,6 +111,7 @@ fn made_case(number: usize, seed: u64, file: File, mut random: Random, simple: b
     let (way, rounds) = match (file.feed, simple) {
         (Feed::ThroughField, _) => cut_through_field(&file.bytes),
         (Feed::ThroughLines, _) => cut_through_lines(&file.bytes),
+        (Feed::ThroughStatements, _) => cut_through_statements(&file.bytes),
         (_, true) => cut_simply(&mut random, &file.bytes),
         (_, false) => cut_file(&mut random, &file.bytes),
     };
@@ -147,7 +164,7 @@ mod tests {
         }
     }
 
-    /// The seven totals at the end of an answer, and the answer before them.
+    /// The eight totals at the end of an answer, and the answer before them.
     fn totals_of(text: &str) -> (&str, Vec<u64>) {
         let (answer, totals) = text.split_once(" totals ").expect("every answer has them");
         (answer, totals.split(' ').map(|total| total.parse().expect("a number")).collect())
@@ -196,11 +213,13 @@ mod tests {
             "two pieces",
             "cut through the field",
             "cut through the lines",
+            "cut through the statements",
         ];
         let texts: Vec<String> = cases().map(|case| case.about).collect();
         for way in ways {
             let count = texts.iter().filter(|text| text.ends_with(&format!("; {way}"))).count();
-            assert!(count > 50, "{way}: {count}");
+            let least = if way == "cut through the statements" { 20 } else { 50 };
+            assert!(count > least, "{way}: {count}");
         }
     }
 
@@ -228,11 +247,10 @@ mod tests {
     #[test]
     fn long_files_have_pieces_of_the_greatest_length() {
         let plan = Plan::new(5);
-        let long = |&number: &usize| plan.swept(number).is_some_and(|file| file.bytes.len() > 200_000);
-        let cases: Vec<Case> =
-            (0..plan.full()).filter(long).map(|number| plan.case(number)).collect();
+        let numbers = plan.cases_longer_than(200_000).into_iter();
+        let cases: Vec<Case> = numbers.map(|number| plan.case(number)).collect();
         let longest = |command: &Command| command.length() == LONGEST_PIECE;
-        assert_eq!(cases.len(), 3);
+        assert_eq!(cases.len(), 4);
         assert!(cases.iter().all(|case| case.commands.iter().any(longest)));
     }
 
@@ -241,13 +259,13 @@ mod tests {
         let plan = Plan::new(1);
         assert!(plan.full() <= DEFAULT_CASES);
         let swept = (0..DEFAULT_CASES).filter(|&number| plan.swept(number).is_some()).count();
-        assert_eq!(swept, plan.swept.files.len());
+        assert_eq!(swept, plan.swept.count());
     }
 
     #[test]
     fn so_many_cases_have_so_many_swept_files() {
         let plan = Plan::new(1);
-        for files in 0..7 {
+        for files in 0..9 {
             let among = |cases| (0..cases).filter(|&number| plan.swept(number).is_some()).count();
             assert_eq!(among(cases_for(files)), files);
         }

@@ -15,7 +15,7 @@ pub enum Command {
     Piece(Vec<u8>),
     Finish,
     Counts,
-    /// A report with room for only 97 counts.
+    /// A report with room for only 133 counts.
     ShortCounts,
 }
 

@@ -14,6 +14,9 @@ const SHORT: usize = 150;
 /// Files up to this length are cut in each of their lines.
 const OF_FEW_LINES: usize = 600;
 
+/// The most rounds in which a file's statements are cut.
+const MOST_ROUNDS: usize = 40;
+
 /// About how many bytes the oracle may judge for one case, pieces joined anew
 /// for each answer.
 const JUDGED: usize = 40_000;
@@ -21,6 +24,9 @@ const JUDGED: usize = 40_000;
 /// Rounds of a way chosen by chance, and its name.
 pub fn cut_file(random: &mut Random, bytes: &[u8]) -> (&'static str, Vec<Pieces>) {
     let chance = random.below(100);
+    if has_statement(bytes) && bytes.len() <= OF_FEW_LINES && random.percent(30) {
+        return cut_through_statements(bytes);
+    }
     match (bytes.len() <= SHORT, chance) {
         (true, 0..=29) => ("one byte pieces", vec![one_byte_pieces(bytes)]),
         (true, 30..=37) => ("two pieces at every cut", every_cut(bytes)),
@@ -87,6 +93,33 @@ fn places_in_lines(bytes: &[u8]) -> Vec<usize> {
         start = end;
     }
     places.into_iter().collect()
+}
+
+/// Every 9900 line and 9999 cut at every byte: in one round all at once, then
+/// in one for each.
+pub fn cut_through_statements(bytes: &[u8]) -> (&'static str, Vec<Pieces>) {
+    let places = places_in_statements(bytes);
+    let mut rounds = vec![cut_at(bytes, &places)];
+    rounds.extend(places.iter().map(|&place| cut_at(bytes, &[place])));
+    ("cut through the statements", rounds)
+}
+
+fn has_statement(bytes: &[u8]) -> bool {
+    bytes.split(|&byte| byte == LF).any(|line| line.starts_with(b"|9900|"))
+}
+
+fn places_in_statements(bytes: &[u8]) -> Vec<usize> {
+    let mut places = BTreeSet::new();
+    let mut start = 0;
+    for line in bytes.split_inclusive(|&byte| byte == LF) {
+        if line.starts_with(b"|9900|") || line.starts_with(b"|9999|") {
+            places.extend(start..=start + line.len());
+        }
+        start += line.len();
+    }
+    // a round for each place is too much where there are many
+    let step = places.len() / MOST_ROUNDS + 1;
+    places.into_iter().step_by(step).collect()
 }
 
 /// In one piece if it is short enough; no bytes are no piece or an empty one.
@@ -185,6 +218,7 @@ mod tests {
                 cut_simply(&mut random, &bytes),
                 cut_through_field(&bytes),
                 cut_through_lines(&bytes),
+                cut_through_statements(&bytes),
             ] {
                 assert!(!rounds.is_empty());
                 for pieces in rounds {
@@ -217,6 +251,14 @@ mod tests {
         assert_eq!(places_in_lines(b"|0001|1|\r\n|0990|"), [6, 8, 9, 10, 14, 15, 16]);
         assert_eq!(places_in_lines(b"x\r\n\n|"), [1, 2, 3, 4, 5]);
         assert!(places_in_lines(b"").is_empty());
+    }
+
+    #[test]
+    fn every_byte_of_a_statement() {
+        let bytes = b"|9001|0|\r\n|9900||0|\r\n|9990|4|\r\n|9999|7|";
+        let places = places_in_statements(bytes);
+        assert_eq!(places, (10..=21).chain(31..=39).collect::<Vec<usize>>());
+        assert!(places_in_statements(&bytes[10..21].repeat(100)).len() <= MOST_ROUNDS);
     }
 
     #[test]

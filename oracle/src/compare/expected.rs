@@ -101,7 +101,7 @@ mod tests {
 
     #[test]
     fn answers_of_a_short_checker() {
-        let zeros = " 0".repeat(98);
+        let zeros = " 0".repeat(134);
         let (at_3, at_1) = (format!("counts 0 3{zeros}"), format!("counts 0 1{zeros}"));
         let commands = [
             (Command::New, ""),
@@ -126,7 +126,7 @@ mod tests {
             (piece("|"), "refused 2 1 1 4 0 5"),
             (Command::Finish, "refused 2 1 1 4 0 5"),
         ];
-        let wanted = commands.map(|(command, text)| (command, line(text, "0 0 0 0 0 0 0")));
+        let wanted = commands.map(|(command, text)| (command, line(text, "0 0 0 0 0 0 0 0")));
         assert_answers(wanted.to_vec());
     }
 
@@ -134,31 +134,31 @@ mod tests {
     #[test]
     fn totals_of_a_checker() {
         let ones = |rows: &[usize]| -> String {
-            (0..98).map(|row| if rows.contains(&row) { " 1" } else { " 0" }).collect()
+            (0..134).map(|row| if rows.contains(&row) { " 1" } else { " 0" }).collect()
         };
-        let all = format!("counts 6 110{}", ones(&[0, 1, 18, 95, 96, 97]));
+        let all = format!("counts 6 110{}", ones(&[0, 1, 18, 127, 132, 133]));
         let two = format!("counts 2 71{}", ones(&[0, 1]));
         let rest = lines(&BASE[2..]);
         let commands = [
             (Command::New, "", ""),
-            (piece(BASE[0]), "open 0 58", "0 0 0 0 0 0 0"),
-            (piece("\r"), "open 0 59", "0 0 0 0 0 0 0"),
-            (piece("\n"), "open 1 60", "1 0 0 0 0 0 0"),
-            (piece(&lines(&BASE[1..2])), "open 2 70", "2 0 0 0 0 0 0"),
-            (piece(&rest), "open 6 110", "3 0 0 0 0 0 3"),
-            (Command::ShortCounts, "refused 18 0 0 0 0 0", "3 0 0 0 0 0 3"),
-            (Command::Finish, "accepted 6 110", "3 0 0 0 0 0 3"),
-            (piece(&rest), "refused 17 0 0 0 0 0", "3 0 0 0 0 0 3"),
-            (Command::Finish, "refused 17 0 0 0 0 0", "3 0 0 0 0 0 3"),
-            (Command::Counts, &all, "3 0 0 0 0 0 3"),
+            (piece(BASE[0]), "open 0 58", "0 0 0 0 0 0 0 0"),
+            (piece("\r"), "open 0 59", "0 0 0 0 0 0 0 0"),
+            (piece("\n"), "open 1 60", "1 0 0 0 0 0 0 0"),
+            (piece(&lines(&BASE[1..2])), "open 2 70", "2 0 0 0 0 0 0 0"),
+            (piece(&rest), "open 6 110", "3 0 0 0 0 0 0 3"),
+            (Command::ShortCounts, "refused 18 0 0 0 0 0", "3 0 0 0 0 0 0 3"),
+            (Command::Finish, "accepted 6 110", "3 0 0 0 0 0 0 3"),
+            (piece(&rest), "refused 17 0 0 0 0 0", "3 0 0 0 0 0 0 3"),
+            (Command::Finish, "refused 17 0 0 0 0 0", "3 0 0 0 0 0 0 3"),
+            (Command::Counts, &all, "3 0 0 0 0 0 0 3"),
             (Command::New, "", ""),
-            (Command::ShortCounts, "refused 18 0 0 0 0 0", "0 0 0 0 0 0 0"),
-            (piece(&lines(&BASE[..2])), "open 2 70", "2 0 0 0 0 0 0"),
-            (piece("0990|3|\r\n"), "refused 1 3 0 0 2 71", "2 0 0 0 0 0 0"),
-            (piece(&rest), "refused 1 3 0 0 2 71", "2 0 0 0 0 0 0"),
-            (Command::Counts, &two, "2 0 0 0 0 0 0"),
-            (Command::Finish, "refused 1 3 0 0 2 71", "2 0 0 0 0 0 0"),
-            (piece(""), "refused 17 0 0 0 0 0", "2 0 0 0 0 0 0"),
+            (Command::ShortCounts, "refused 18 0 0 0 0 0", "0 0 0 0 0 0 0 0"),
+            (piece(&lines(&BASE[..2])), "open 2 70", "2 0 0 0 0 0 0 0"),
+            (piece("0990|3|\r\n"), "refused 1 3 0 0 2 71", "2 0 0 0 0 0 0 0"),
+            (piece(&rest), "refused 1 3 0 0 2 71", "2 0 0 0 0 0 0 0"),
+            (Command::Counts, &two, "2 0 0 0 0 0 0 0"),
+            (Command::Finish, "refused 1 3 0 0 2 71", "2 0 0 0 0 0 0 0"),
+            (piece(""), "refused 17 0 0 0 0 0", "2 0 0 0 0 0 0 0"),
         ];
         let wanted = commands.map(|(command, text, totals)| (command, line(text, totals)));
         assert_answers(wanted.to_vec());

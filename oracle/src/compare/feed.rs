@@ -6,7 +6,8 @@ use super::cuts::Pieces;
 use crate::generate::Random;
 use crate::{verdict, Verdict};
 
-/// Commands for all rounds. Only the last one has the long end.
+/// Commands for all rounds. Only the last one has the long end. Where it is
+/// finished too early, one round before it is not.
 pub fn commands(
     random: &mut Random,
     bytes: &[u8],
@@ -18,16 +19,25 @@ pub fn commands(
         commands.extend(given_up(random, bytes));
     }
     let last = rounds.len() - 1;
+    let too_early = long_end && random.percent(12);
+    if too_early && last == 0 {
+        commands.push(Command::New);
+        commands.extend(short_round(random, pieces_of(rounds[0].clone())));
+    }
     for (number, pieces) in rounds.into_iter().enumerate() {
         commands.push(Command::New);
-        let pieces = pieces.into_iter().map(Command::Piece).collect();
+        let pieces = pieces_of(pieces);
         if number == last && long_end {
-            commands.extend(long_round(random, bytes, pieces));
+            commands.extend(long_round(random, bytes, pieces, too_early));
         } else {
             commands.extend(short_round(random, pieces));
         }
     }
     commands
+}
+
+fn pieces_of(pieces: Pieces) -> Vec<Command> {
+    pieces.into_iter().map(Command::Piece).collect()
 }
 
 /// A round that ends in the middle of the file with no finish.
@@ -47,7 +57,12 @@ fn short_round(random: &mut Random, mut commands: Vec<Command>) -> Vec<Command> 
     commands
 }
 
-fn long_round(random: &mut Random, bytes: &[u8], mut commands: Vec<Command>) -> Vec<Command> {
+fn long_round(
+    random: &mut Random,
+    bytes: &[u8],
+    mut commands: Vec<Command>,
+    too_early: bool,
+) -> Vec<Command> {
     let refused = matches!(verdict(bytes), Verdict::Refused { .. });
     if refused && random.percent(40) {
         // the refusal must be repeated
@@ -58,8 +73,10 @@ fn long_round(random: &mut Random, bytes: &[u8], mut commands: Vec<Command>) -> 
     sprinkle(random, &mut commands, 25, Command::Counts);
     sprinkle(random, &mut commands, 20, Command::ShortCounts);
     sprinkle(random, &mut commands, 20, Command::Piece(Vec::new()));
-    // too early, so that pieces come after it
-    sprinkle(random, &mut commands, 12, Command::Finish);
+    if too_early {
+        // pieces come after it
+        sprinkle(random, &mut commands, 100, Command::Finish);
+    }
     commands.extend(end(random, bytes));
     commands
 }

@@ -13,8 +13,8 @@ const LONGEST_SWEPT: usize = 1000;
 
 pub struct Values {
     /// The field stands with them. The first three are not too long for a line
-    /// full of them, the last is empty where that stands. A count has none, as
-    /// it hangs on the file which is true.
+    /// full of them, the last is empty where that stands. A count and a stated
+    /// number have none, as it hangs on the file which is true.
     pub good: Vec<Vec<u8>>,
     /// The field is refused with them; tried at every field of the kind.
     pub near: Vec<Vec<u8>>,
@@ -28,6 +28,7 @@ pub fn values(kind: Kind) -> Values {
         (Role::Date, ..) => dates(),
         (Role::Mark, ..) => marks(),
         (Role::Count, ..) => counts(),
+        (Role::Stated, ..) => Values { good: Vec::new(), ..numbers() },
         (Role::Checked(checked), ..) => checked_numbers(checked),
         _ if !kind.numeric => texts(kind.longest_text()),
         (_, Some(decimals), _) => amounts(decimals),

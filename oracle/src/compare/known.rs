@@ -1,10 +1,11 @@
-//! The document's own list of cases, those of requests h, e and g, and cases of
-//! the rules they leave out.
+//! The document's own list of cases, those of requests h, e, g and f, and cases
+//! of the rules they leave out.
 
 use super::base::{
     base, base_field, base_until, base_with, block_start, block_start_with, file, written, File, BASE,
 };
 use super::known_positions::known_positions;
+use super::known_statements::{first_statements, other_statements};
 use super::known_totals::known_totals;
 
 /// A stored run has about the first hundred of the short ones, so that the
@@ -13,10 +14,12 @@ pub fn known_files() -> Vec<File> {
     [
         whole_files(),
         known_totals(),
+        first_statements(),
         second_lines(),
         field_values(),
         rows_in_place(),
         other_rules(),
+        other_statements(),
         amounts_and_dates(),
         numbers_with_check_digits(),
         other_fields_with_check_digits(),
@@ -151,10 +154,10 @@ fn numbers_with_check_digits() -> Vec<File> {
 }
 
 /// Wrong check digits in all other rows with a CNPJ or CPF, and in EQP_CNPJ,
-/// which is none.
+/// ARQ_CNPJ and ARQ_CPF, which are none.
 fn other_fields_with_check_digits() -> Vec<File> {
     let f225 = ["F200", "F210", "F215", "F220", "F225"];
-    let rows: [(&[&str], usize, &str); 13] = [
+    let rows: [(&[&str], usize, &str); 15] = [
         (&["0005"], 4, "52998224724"),
         (&["0100"], 4, "11222333000144"),
         (&["0100"], 5, "52998224724"),
@@ -168,6 +171,8 @@ fn other_fields_with_check_digits() -> Vec<File> {
         (&["C600"], 3, "11222333000144"),
         (&f225, 4, "11222333000144"),
         (&["F200", "F205"], 4, "11222333000144"),
+        (&["9020"], 6, "11222333000144"),
+        (&["9020"], 17, "52998224724"),
     ];
     let with = |(codes, field, value): (&[&str], usize, &str)| {
         let about = format!("{} field {field}: {value}", codes.join(" "));
@@ -181,11 +186,17 @@ fn amounts_and_dates() -> Vec<File> {
     let long = "999999999999999999999,00";
     let amounts = ["", "1,00", long, "1,0", "1,000", "1", ",00", "1.00", "1,0x", "-1,00"];
     let dates = ["", "29022012", "29022011", "31042012", "2902201x", "2902201"];
-    let lines: [(&[&str], usize, &[&str]); 4] = [
+    let added = ["1,0000", "1,00", "1,000", "1,00000", "1"];
+    let no_dates = ["99999999", "00000000", "9999999", "9999999x"];
+    let lines: [(&[&str], usize, &[&str]); 8] = [
         (&["E300", "E340"], 2, &amounts),
         (&["H020"], 4, &amounts),
         (&["E300"], 2, &dates),
         (&["H020"], 3, &dates),
+        (&["8160"], 4, &dates),
+        (&["8020", "8050"], 4, &added),
+        (&["9020"], 3, &no_dates),
+        (&["9020", "9040"], 7, &no_dates),
     ];
     let mut files = Vec::new();
     for (codes, field, values) in lines {
@@ -197,7 +208,7 @@ fn amounts_and_dates() -> Vec<File> {
 }
 
 fn rows_in_place() -> Vec<File> {
-    let lists: [&[&str]; 12] = [
+    let lists: [&[&str]; 29] = [
         &["0175"],
         &["0150", "0175", "0175"],
         &["0150", "0175", "0150", "0175"],
@@ -210,6 +221,23 @@ fn rows_in_place() -> Vec<File> {
         &["E300", "E340", "E305", "E340"],
         &["H020", "H020", "H030", "H030"],
         &["0005", "0025", "0005"],
+        &["8020", "8050", "8050"],
+        &["8020", "8050", "8020", "8050"],
+        &["8160", "8165", "8170", "8165"],
+        &["8160", "8165", "8160", "8165"],
+        &["8500", "8545", "8545", "8560"],
+        &["8500", "8545", "8560", "8550", "8560"],
+        &["8500", "8545", "8560", "8545", "8560"],
+        &["8500", "8545", "8570", "8580", "8590", "8560"],
+        &["8500", "8545", "8580", "8585", "8585", "8585", "8585"],
+        &["8500", "8545", "8580", "8585", "8585", "8585", "8585", "8585"],
+        &["8500", "8505", "8510", "8525"],
+        &["8500", "8505", "8515", "8525", "8525"],
+        &["9020", "9030", "9040", "9900", "9030"],
+        &["8500", "8545", "8590", "8560", "8590"],
+        &["8500", "8545", "8570", "8570"],
+        &["8500", "8545", "8580", "8585", "8580"],
+        &["9030"],
     ];
     lists.map(|codes| file(format!("rows {}", codes.join(" ")), block_start(codes))).to_vec()
 }
@@ -217,8 +245,18 @@ fn rows_in_place() -> Vec<File> {
 fn other_rules() -> Vec<File> {
     vec![
         file("a byte before the first bar", b" |0000|".to_vec()),
-        file("no such code", base_until(2, b"|8001|")),
+        file("no such code", base_until(2, b"|8002|")),
+        file("8001 with 2 fields", base_until(4, b"|8001|1|\r\n")),
+        file("8001 with a state", base_until(4, b"|8001|0|PE|\r\n|8020|||")),
+        file("8001 with another state", base_until(4, b"|8001|1|XX|\r\n")),
+        file("8001 with a state too long", base_until(4, b"|8001|1|PEX|")),
+        file("8001 saying 2", base_until(4, b"|8001|2|")),
+        file("8001 saying nothing", base_until(4, b"|8001||")),
+        file("8001 saying 1, then data", base_until(4, b"|8001|1||\r\n|8020|")),
+        file("8001 saying 0, then none", base_until(4, b"|8001|0||\r\n|8990|")),
+        file("block 8, then H001", base_until(4, b"|8001|1||\r\n|8990|2|\r\n|H001|")),
         file("code in lower case", base_until(4, b"|c001|")),
+        file("code of a data line in lower case", base_until(4, b"|H001|0|\r\n|h020|")),
         file("no code", base_until(2, b"||")),
         file("a bar and CR", base_until(2, b"|\r")),
         file("a bar and LF", base_until(2, b"|\n")),

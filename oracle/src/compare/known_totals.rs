@@ -8,28 +8,30 @@ use crate::generate::place_cases::bare_file;
 use crate::generate::Random;
 
 /// One data line in each block that can have one.
-const ALL: [&str; 22] = [
+const ALL: [&str; 26] = [
     "0000", "0001", "0025", "0990", "C001", "C550", "C990", "E001", "E300", "E990", "F001", "F200",
-    "F990", "G001", "G020", "G990", "H001", "H020", "H990", "9001", "9990", "9999",
+    "F990", "G001", "G020", "G990", "H001", "H020", "H990", "8001", "8300", "8990", "9001", "9900",
+    "9990", "9999",
 ];
 
 /// All blocks, and of no two of them as many lines.
-const ALL_DIFFERENT: [&str; 35] = [
-    "0000", "0001", "0450", "0455", "0990", "C001", "C990", "E001", "E300", "E300", "E300", "E300",
-    "E300", "E300", "E990", "F001", "F200", "F210", "F210", "F210", "F990", "G001", "G020", "G430",
-    "G430", "G430", "G430", "G990", "H001", "H020", "H040", "H990", "9001", "9990", "9999",
+const ALL_DIFFERENT: [&str; 44] = [
+    "0000", "0001", "0990", "C001", "C990", "E001", "E300", "E300", "E300", "E990", "F001", "F200",
+    "F210", "F210", "F210", "F210", "F990", "G001", "G020", "G430", "G430", "G430", "G990", "H001",
+    "H020", "H040", "H990", "8001", "8300", "8300", "8300", "8300", "8300", "8300", "8990", "9001",
+    "9900", "9900", "9900", "9900", "9900", "9900", "9990", "9999",
 ];
 
-const FEW: [(&str, &[&str]); 4] = [
+const FEW: [(&str, &[&str]); 5] = [
     ("blocks 0, C and 9", &["C001", "C550", "C990"]),
     ("blocks 0, E, G and 9", &["E001", "E300", "E300", "E990", "G001", "G990"]),
     ("blocks 0, F and 9", &["F001", "F200", "F210", "F215", "F220", "F225", "F990"]),
     ("blocks 0, H and 9", &["H001", "H990"]),
+    ("blocks 0, 8 and 9", &["8001", "8100", "8110", "8110", "8990"]),
 ];
 
-/// A line of each block that can be refused or cut off: its data line, or the
-/// closing of block 9.
-const ONE_OF_EACH: [&str; 7] = ["0025", "C550", "E300", "F200", "G020", "H020", "9990"];
+/// A line of each block that can be refused or cut off: its data line.
+const ONE_OF_EACH: [&str; 8] = ["0025", "C550", "E300", "F200", "G020", "H020", "8300", "9900"];
 
 pub fn known_totals() -> Vec<File> {
     let mut files = vec![
@@ -90,14 +92,15 @@ mod tests {
     #[test]
     fn totals_of_files_that_stand() {
         let wanted = [
-            [4, 3, 3, 3, 3, 3, 3],
-            [5, 2, 8, 6, 7, 4, 3],
-            [3, 3, 0, 0, 0, 0, 3],
-            [3, 0, 4, 0, 2, 0, 3],
-            [3, 0, 0, 7, 0, 0, 3],
-            [3, 0, 0, 0, 0, 2, 3],
+            [4, 3, 3, 3, 3, 3, 3, 4],
+            [3, 2, 5, 7, 6, 4, 8, 9],
+            [3, 3, 0, 0, 0, 0, 0, 3],
+            [3, 0, 4, 0, 2, 0, 0, 3],
+            [3, 0, 0, 7, 0, 0, 0, 3],
+            [3, 0, 0, 0, 0, 2, 0, 3],
+            [3, 0, 0, 0, 0, 0, 5, 3],
         ];
-        assert_eq!(outcomes()[..6], wanted.map(|totals| (0, totals)));
+        assert_eq!(outcomes()[..7], wanted.map(|totals| (0, totals)));
         assert_eq!(BTreeSet::from(wanted[1]).len(), BLOCKS.len());
     }
 
@@ -105,16 +108,17 @@ mod tests {
     #[test]
     fn totals_of_files_refused_or_cut_off() {
         let wanted = [
-            [2, 0, 0, 0, 0, 0, 0],
-            [4, 1, 0, 0, 0, 0, 0],
-            [4, 3, 1, 0, 0, 0, 0],
-            [4, 3, 3, 1, 0, 0, 0],
-            [4, 3, 3, 3, 1, 0, 0],
-            [4, 3, 3, 3, 3, 1, 0],
-            [4, 3, 3, 3, 3, 3, 1],
+            [2, 0, 0, 0, 0, 0, 0, 0],
+            [4, 1, 0, 0, 0, 0, 0, 0],
+            [4, 3, 1, 0, 0, 0, 0, 0],
+            [4, 3, 3, 1, 0, 0, 0, 0],
+            [4, 3, 3, 3, 1, 0, 0, 0],
+            [4, 3, 3, 3, 3, 1, 0, 0],
+            [4, 3, 3, 3, 3, 3, 1, 0],
+            [4, 3, 3, 3, 3, 3, 3, 1],
         ];
-        assert_eq!(outcomes()[6..13], wanted.map(|totals| (9, totals)));
-        assert_eq!(outcomes()[13..], wanted.map(|totals| (14, totals)));
+        assert_eq!(outcomes()[7..15], wanted.map(|totals| (9, totals)));
+        assert_eq!(outcomes()[15..], wanted.map(|totals| (14, totals)));
     }
 
     #[test]

@@ -14,6 +14,7 @@ mod field_values;
 mod kind_tally;
 mod known;
 mod known_positions;
+mod known_statements;
 mod known_totals;
 mod long_files;
 mod options;
@@ -30,6 +31,7 @@ mod sweep_pairs;
 mod sweep_places;
 mod sweep_positions;
 mod sweep_rows;
+mod sweep_statements;
 mod text;
 
 pub use case::{Case, Plan};

@@ -2,7 +2,7 @@
 
 use std::path::PathBuf;
 
-pub const DEFAULT_CASES: usize = 42_000;
+pub const DEFAULT_CASES: usize = 55_000;
 
 #[derive(Debug, PartialEq, Eq)]
 pub struct Options {

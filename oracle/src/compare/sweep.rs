@@ -3,7 +3,7 @@
 
 use super::base::File;
 use super::known::known_files;
-use super::long_files::{c300_files, long_files};
+use super::long_files::{long_files, rows_of_990};
 use super::sweep_blocks::block_files;
 use super::sweep_bytes::byte_files;
 use super::sweep_check_digits::check_digit_files;
@@ -14,21 +14,47 @@ use super::sweep_pairs::pair_files;
 use super::sweep_places::place_files;
 use super::sweep_positions::position_files;
 use super::sweep_rows::row_files;
+use super::sweep_statements::statement_files;
 use crate::generate::Random;
-
-pub struct Swept {
-    pub files: Vec<File>,
-    /// So many of the first of them show all that must come up of each kind.
-    pub with_kinds: usize,
-}
+use std::sync::OnceLock;
 
 /// The known ones and those of each kind first, then all others in an order
 /// made by chance, so that a short run has some of every sort.
-pub fn swept_files(random: &mut Random) -> Swept {
-    let first = [known_files(), kind_files(random)].concat();
-    let with_kinds = first.len();
-    let files = [first, c300_files(random), other_files(random)].concat();
-    Swept { files, with_kinds }
+pub struct Swept {
+    first: Vec<File>,
+    /// So many of the first of them show all that must come up of each kind.
+    pub with_kinds: usize,
+    /// Made when one of them is asked for: a short run does without.
+    others: OnceLock<Vec<File>>,
+    random: Random,
+}
+
+impl Swept {
+    pub fn new(mut random: Random) -> Self {
+        let known = [known_files(), kind_files(&mut random)].concat();
+        let with_kinds = known.len();
+        let first = [known, rows_of_990(&mut random)].concat();
+        Swept { first, with_kinds, others: OnceLock::new(), random }
+    }
+
+    fn others(&self) -> &[File] {
+        self.others.get_or_init(|| other_files(&mut self.random.clone()))
+    }
+
+    pub fn count(&self) -> usize {
+        self.first.len() + self.others().len()
+    }
+
+    pub fn get(&self, place: usize) -> Option<&File> {
+        match place.checked_sub(self.first.len()) {
+            None => self.first.get(place),
+            Some(place) => self.others().get(place),
+        }
+    }
+
+    pub fn files(&self) -> impl Iterator<Item = &File> {
+        self.first.iter().chain(self.others())
+    }
 }
 
 fn other_files(random: &mut Random) -> Vec<File> {
@@ -37,6 +63,7 @@ fn other_files(random: &mut Random) -> Vec<File> {
         field_files(random),
         check_digit_files(),
         count_files(random),
+        statement_files(random),
         place_files(random),
         long_files(),
         byte_files(),
@@ -55,7 +82,7 @@ fn other_files(random: &mut Random) -> Vec<File> {
 mod tests {
     use super::*;
     use crate::kinds::kind;
-    use crate::rows::{row_with_code, rows};
+    use crate::rows::{row_with_code, rows, ROWS};
     use crate::{counts, finish, Final};
     use std::collections::BTreeSet;
 
@@ -63,7 +90,7 @@ mod tests {
     /// with lines in accepted files.
     fn what_comes_up() -> (BTreeSet<(u8, usize, u64)>, BTreeSet<usize>) {
         let (mut refusals, mut accepted) = (BTreeSet::new(), BTreeSet::new());
-        for file in swept_files(&mut Random::from_seed(1)).files {
+        for file in Swept::new(Random::from_seed(1)).files() {
             let bytes = &file.bytes;
             match finish(bytes) {
                 Final::Refused { number, field, bytes: judged, .. } => {
@@ -73,7 +100,7 @@ mod tests {
                     refusals.extend(row.map(|row| (number, row, field)));
                 }
                 Final::Accepted { .. } => {
-                    accepted.extend((0..98).filter(|&row| counts(bytes)[row] > 0))
+                    accepted.extend((0..ROWS).filter(|&row| counts(bytes)[row] > 0))
                 }
             }
         }
@@ -85,6 +112,7 @@ mod tests {
         let fields = row.fields as u64;
         let mut wanted = vec![(7, place, fields), (8, place, fields + 1)];
         wanted.extend((row.code != "9999").then_some((4, place, 1)));
+        wanted.extend((row.code == "9999").then_some((23, place, 2)));
         // deeper rows have no open parent right after an opening: 4 goes first
         wanted.extend((row.level == 2 || row.is_closing()).then_some((5, place, 1)));
         wanted.extend((row.is_data() && row.limit.is_some()).then_some((6, place, 1)));
@@ -99,8 +127,8 @@ mod tests {
     #[test]
     fn every_row_and_field_is_refused_in_every_way() {
         let (refusals, accepted) = what_comes_up();
-        assert_eq!(accepted.len(), 98);
-        let wanted = (0..98).flat_map(wanted_of_row);
+        assert_eq!(accepted.len(), 134);
+        let wanted = (0..ROWS).flat_map(wanted_of_row);
         let missing: Vec<String> = wanted
             .filter(|refusal| !refusals.contains(refusal))
             .map(|(number, row, field)| format!("{number} {} {field}", rows()[row].code))

@@ -8,7 +8,7 @@ use crate::generate::Random;
 use crate::rows::BLOCKS;
 
 /// Data lines of each block, of all levels and of no two blocks as many: with
-/// opening and closing, 0000 and 9999 they are 5, 4, 6, 7, 8, 9 and 3 lines.
+/// opening and closing, 0000 and 9999 they are 5, 4, 6, 7, 8, 9, 10 and 11 lines.
 const DATA: [&[&str]; BLOCKS.len()] = [
     &["0150", "0175"],
     &["C600", "C610"],
@@ -16,10 +16,11 @@ const DATA: [&[&str]; BLOCKS.len()] = [
     &["F200", "F210", "F215", "F220", "F230"],
     &["G020", "G025", "G450", "G460", "G460", "G020"],
     &["H020", "H030", "H030", "H040", "H060", "H020", "H050"],
-    &[],
+    &["8160", "8165", "8175", "8180", "8500", "8545", "8580", "8585"],
+    &["9900", "9020", "9030", "9030", "9040", "9020", "9900", "9900"],
 ];
 
-/// Blocks 0 and 9 must be there, so that it goes by the five others.
+/// Blocks 0 and 9 must be there, so that it goes by the six others.
 const MIXTURES: usize = 1 << (BLOCKS.len() - 2);
 
 pub fn block_files(random: &mut Random) -> Vec<File> {
@@ -45,7 +46,8 @@ const DAMAGES: [(&str, Damage); 2] = [
 
 /// Each bit of the number says whether one of the blocks is there.
 fn mixture_draft(random: &mut Random, mixture: usize) -> Draft {
-    let is_there = |place: usize| place == 0 || place > 5 || mixture >> (place - 1) & 1 == 1;
+    let must_be = |place: usize| place == 0 || place == BLOCKS.len() - 1;
+    let is_there = |place: usize| must_be(place) || mixture >> (place - 1) & 1 == 1;
     let mut codes = vec!["0000".to_string()];
     for place in (0..BLOCKS.len()).filter(|&place| is_there(place)) {
         codes.push(frame_code(place, "001"));
@@ -89,7 +91,7 @@ mod tests {
 
     #[test]
     fn every_mixture_stands() {
-        let whole = [5, 4, 6, 7, 8, 9, 3];
+        let whole = [5, 4, 6, 7, 8, 9, 10, 11];
         let mut mixtures = BTreeSet::new();
         for file in &files()[..MIXTURES] {
             assert!(matches!(finish(&file.bytes), Final::Accepted { .. }), "{}", file.about);
@@ -97,8 +99,8 @@ mod tests {
             assert!(totals.iter().zip(whole).all(|(&total, whole)| [0, whole].contains(&total)));
             mixtures.insert(totals);
         }
-        assert_eq!(mixtures.len(), 32);
-        assert!(mixtures.contains(&whole) && mixtures.contains(&[5, 0, 0, 0, 0, 0, 3]));
+        assert_eq!(mixtures.len(), 64);
+        assert!(mixtures.contains(&whole) && mixtures.contains(&[5, 0, 0, 0, 0, 0, 0, 11]));
     }
 
     /// In each block, and in its opening, its closing and a line between them.
@@ -118,6 +120,6 @@ mod tests {
                 assert!(refusals.contains(&(number, code.into_bytes())));
             }
         }
-        assert_eq!((refusals.len(), codes_of_all_sorts().len()), (44, 22));
+        assert_eq!((refusals.len(), codes_of_all_sorts().len()), (52, 26));
     }
 }

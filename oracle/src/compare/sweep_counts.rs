@@ -25,7 +25,8 @@ fn files_of_row(random: &mut Random, row: usize) -> Vec<File> {
     files
 }
 
-fn writings(count: usize) -> Vec<(String, Vec<u8>)> {
+/// A number in many ways, each with its name.
+pub fn writings(count: usize) -> Vec<(String, Vec<u8>)> {
     [with_zeros(count), wrapping(count), untrue(count), not_digits(count)].concat()
 }
 
@@ -59,7 +60,7 @@ fn untrue(count: usize) -> Vec<(String, Vec<u8>)> {
         String::new(),
         "0".to_string(),
         "0".repeat(300),
-        (count - 1).to_string(),
+        count.saturating_sub(1).to_string(),
         (count + 1).to_string(),
         format!("{digits}0"),
         format!("1{digits}"),
@@ -79,4 +80,33 @@ fn not_digits(count: usize) -> Vec<(String, Vec<u8>)> {
         [("+", ""), ("-", ""), (" ", ""), ("", " "), ("", ",0"), ("", "x"), ("", ":"), ("/", "")];
     let value = |(before, after)| format!("{before}{count}{after}");
     around.map(|around| (format!("now {}", value(around)), value(around).into_bytes())).to_vec()
+}
+
+/// Numbers that end or begin with the digits of this one, and such as a width
+/// of so many decimal digits would take for it.
+pub fn decimal_neighbours(count: usize) -> Vec<(String, Vec<u8>)> {
+    let mut writings = Vec::new();
+    for power in [1, 2, 3, 5, 9, 10, 18, 19, 20, 38, 39, 100, 999] {
+        let value = format!("1{count:0power$}");
+        writings.push((format!("plus 10 to the {power}"), value.into_bytes()));
+    }
+    for around in [("7", ""), ("", "7"), ("9", "9"), ("0", "0"), ("00", "00")] {
+        let value = format!("{}{count}{}", around.0, around.1);
+        writings.push((format!("now {value}"), value.into_bytes()));
+    }
+    writings.push(("twice".into(), format!("{count}{count}").into_bytes()));
+    writings
+}
+
+#[cfg(test)]
+mod tests {
+    use super::decimal_neighbours;
+
+    #[test]
+    fn powers_of_ten() {
+        let values = decimal_neighbours(12);
+        assert_eq!(values[1].1, b"112");
+        assert_eq!(values[5].1, b"10000000012");
+        assert_eq!(values[12].1.len(), 1000);
+    }
 }

@@ -54,6 +54,9 @@ pub fn with_value(random: &mut Random, row: usize, field: usize, value: &[u8]) -
     let mut draft = good_file_with(random, TIGHT, row);
     let place = draft.places_of(code.as_bytes())[0];
     draft.lines[place].fields[field - 1] = value.to_vec();
+    if kind(row, field).role != Role::Stated {
+        draft.mend_stated();
+    }
     let shown = &value[..value.len().min(20)];
     let about = format!("{code} field {field}, {} bytes: {}", value.len(), shown.escape_ascii());
     file(about, draft.write())
@@ -73,6 +76,7 @@ fn full_lines(random: &mut Random, row: usize) -> Vec<File> {
             let good = values(kind(row, field)).good;
             draft.lines[place].fields[field - 1] = good[turn % good.len()].clone();
         }
+        draft.mend_stated();
         files.push(file(format!("{} with all fields filled, {turn}", rows()[row].code), draft.write()));
     }
     files

@@ -28,14 +28,16 @@ fn files_of_kind(random: &mut Random, wanted: Kind) -> Vec<File> {
 
 fn standing_files(random: &mut Random, row: usize, field: usize) -> Vec<File> {
     let kind = kind(row, field);
-    if kind.role == Role::Count {
+    let mut files = Vec::new();
+    if matches!(kind.role, Role::Count | Role::Stated) {
         let bytes = good_file_with(random, TIGHT, row).write();
-        return vec![file(format!("{} with its true count", rows()[row].code), bytes)];
+        files.push(file(format!("{} with its true number", rows()[row].code), bytes));
     }
     let good = values(kind).good;
     let filled = good.iter().find(|value| !value.is_empty());
     let empty = good.iter().find(|value| value.is_empty());
-    filled.into_iter().chain(empty).map(|value| with_value(random, row, field, value)).collect()
+    files.extend(filled.into_iter().chain(empty).map(|value| with_value(random, row, field, value)));
+    files
 }
 
 fn refused_file(random: &mut Random, row: usize, field: usize, number: u8) -> File {

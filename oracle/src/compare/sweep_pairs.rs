@@ -1,7 +1,7 @@
 //! Every row right after every row: a line of the one, reached in the
 //! shortest way, then a line of the other.
 
-use super::base::{bare, file, written, Feed, File, BASE};
+use super::base::{bare, file, opening, written, Feed, File, BASE};
 use crate::generate::tree::path_to;
 use crate::rows::{rows, Row};
 
@@ -40,7 +40,7 @@ fn lines_up_to(place: usize, mark: &str) -> Vec<String> {
         (_, true) => "0",
         _ => "1",
     };
-    lines.push(format!("|{}001|{opens_with}|", row.block() as char));
+    lines.push(opening(row.block() as char, opens_with));
     lines.extend(path_to(place).iter().map(|&row| bare(&rows()[row].code)));
     if row.code == "9999" {
         lines.push("|9990|3|".to_string());
@@ -59,7 +59,7 @@ fn line_after(before: &[String], row: &Row) -> String {
         "9990" => format!("|9990|{}|", in_block + 2),
         "9999" => format!("|9999|{}|", before.len() + 1),
         code if row.is_closing() => format!("|{code}|{}|", in_block + 1),
-        code if row.is_opening() => format!("|{code}|1|"),
+        _ if row.is_opening() => opening(row.block() as char, "1"),
         code => bare(code),
     }
 }

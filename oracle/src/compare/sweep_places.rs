@@ -23,6 +23,12 @@ fn lists_of_row(row: usize) -> Vec<Vec<usize>> {
     let path = path_to(row);
     let parent = rows()[row].parent.expect("data rows have a parent");
     let mut rests = vec![vec![row], vec![row, row], vec![row, row, row]];
+    // up to the limit and over it, where that is soon reached
+    if let Some(limit @ 2..=20) = rows()[row].limit {
+        rests.push(vec![row; limit]);
+        rests.push([vec![row; limit - 1], vec![parent], vec![row; limit]].concat());
+        rests.push([vec![row; limit - 1], vec![parent], vec![row; limit + 1]].concat());
+    }
     if rows()[parent].is_data() {
         rests.push(vec![parent, row]);
         rests.push(vec![parent, row, row]);

@@ -43,7 +43,7 @@ mod tests {
         assert_eq!(answer_text(refused), "refused 10 3 2 4 2 77");
         assert_eq!(answer_text(Answer::misuse(18)), "refused 18 0 0 0 0 0");
         assert_eq!(counts_text(13, 700, &[1, 0, 12]), "counts 13 700 1 0 12");
-        let late = with_totals(answer_text(Answer::misuse(17)), &[3, 0, 12, 0, 0, 700, 1]);
-        assert_eq!(late, "refused 17 0 0 0 0 0 totals 3 0 12 0 0 700 1");
+        let late = with_totals(answer_text(Answer::misuse(17)), &[3, 0, 12, 0, 0, 700, 9, 1]);
+        assert_eq!(late, "refused 17 0 0 0 0 0 totals 3 0 12 0 0 700 9 1");
     }
 }

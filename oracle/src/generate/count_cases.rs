@@ -28,7 +28,8 @@ pub fn zeros_everywhere(random: &mut Random, room: usize) -> Vec<u8> {
     draft.write()
 }
 
-fn rewritten(random: &mut Random, count: usize) -> Vec<u8> {
+/// The number in another way, true or not.
+pub fn rewritten(random: &mut Random, count: usize) -> Vec<u8> {
     let digits = count.to_string();
     let text = match random.below(12) {
         0 => return with_zeros(random, count, 3),
@@ -37,7 +38,7 @@ fn rewritten(random: &mut Random, count: usize) -> Vec<u8> {
         3 | 4 => return wrapping(random, count),
         5 => return wrapping(random, count),
         6 => (count + 1).to_string(),
-        7 => (count - 1).to_string(),
+        7 => count.saturating_sub(1).to_string(),
         8 => String::new(),
         9 => format!("{digits}0"),
         10 => return random.digits(130),

@@ -46,9 +46,15 @@ impl Draft {
         (0..self.lines.len()).filter(|&place| self.lines[place].code() == code).collect()
     }
 
-    /// Writes true counts into all closings and 9999.
+    fn codes(&self) -> Vec<Vec<u8>> {
+        self.lines.iter().map(|line| line.code().to_vec()).collect()
+    }
+
+    /// Writes true counts into all closings and 9999, and true numbers into all
+    /// 9900 lines.
     pub fn mend_counts(&mut self) {
-        let codes: Vec<Vec<u8>> = self.lines.iter().map(|line| line.code().to_vec()).collect();
+        self.mend_stated();
+        let codes = self.codes();
         for line in self.lines.iter_mut().filter(|line| line.fields.len() >= 2) {
             let code = line.code().to_vec();
             let count = if code == b"9999" {
@@ -59,6 +65,16 @@ impl Draft {
                 continue;
             };
             line.fields[1] = count.to_string().into_bytes();
+        }
+    }
+
+    /// Writes into all 9900 lines how often their code occurs.
+    pub fn mend_stated(&mut self) {
+        let codes = self.codes();
+        let is_stating = |line: &&mut DraftLine| line.code() == b"9900" && line.fields.len() >= 3;
+        for line in self.lines.iter_mut().filter(is_stating) {
+            let occurs = codes.iter().filter(|&code| *code == line.fields[1]).count();
+            line.fields[2] = occurs.to_string().into_bytes();
         }
     }
 

@@ -4,7 +4,7 @@ use super::checked_numbers;
 use super::draft::DraftLine;
 use super::random::Random;
 use crate::kinds::{kind, Kind, Role};
-use crate::rows::rows;
+use crate::rows::{row_with_code, rows};
 
 /// How full the fields are.
 #[derive(Clone, Copy)]
@@ -15,12 +15,16 @@ pub struct Fullness {
     pub longest: usize,
 }
 
-/// A line of a row with good contents. Marks of openings and counts are for
-/// the caller to mend.
+/// A line of a row with good contents. Marks of openings, counts and stated
+/// numbers are for the caller to mend.
 pub fn good_line(random: &mut Random, row: usize, fullness: Fullness) -> DraftLine {
     let mut fields = vec![rows()[row].code.clone().into_bytes()];
     for field in 2..=rows()[row].fields {
         fields.push(good_field(random, kind(row, field), fullness));
+    }
+    if Some(row) == row_with_code(b"9900") && fullness.filled > 0 && random.percent(70) {
+        // codes by chance are hardly ever those of a row
+        fields[1] = random.pick(rows()).code.clone().into_bytes();
     }
     DraftLine::new(fields)
 }
@@ -28,7 +32,7 @@ pub fn good_line(random: &mut Random, row: usize, fullness: Fullness) -> DraftLi
 fn good_field(random: &mut Random, kind: Kind, fullness: Fullness) -> Vec<u8> {
     match kind.role {
         Role::Fixed(text) => text.into(),
-        Role::Mark | Role::Count => b"1".to_vec(),
+        Role::Mark | Role::Count | Role::Stated => b"1".to_vec(),
         _ if !kind.can_be_filled() || !random.percent(fullness.filled) => Vec::new(),
         Role::Date => good_date(random),
         Role::Checked(checked) => checked_numbers::good_number(random, checked),

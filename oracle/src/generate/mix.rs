@@ -1,7 +1,9 @@
 //! The mix of cases: which family comes how often.
 
 use super::random::Random;
-use super::{content_cases, count_cases, edit_cases, line_cases, place_cases, shape_cases, tree};
+use super::{
+    content_cases, count_cases, edit_cases, line_cases, place_cases, shape_cases, stated_cases, tree,
+};
 
 /// Files up to this many bytes are made in the small way.
 pub const SMALL: usize = 400;
@@ -14,7 +16,7 @@ pub struct Case {
 type Family = fn(&mut Random, usize) -> Vec<u8>;
 
 /// Weight, name and maker of each family.
-const MIX: [(usize, &str, Family); 34] = [
+const MIX: [(usize, &str, Family); 37] = [
     (18, "good", good),
     (4, "all bytes", edit_cases::all_bytes),
     (4, "zeros everywhere", count_cases::zeros_everywhere),
@@ -42,6 +44,9 @@ const MIX: [(usize, &str, Family); 34] = [
     (9, "first line", content_cases::first_line),
     (5, "opening mark", content_cases::opening_mark),
     (11, "count", count_cases::count),
+    (9, "stated", stated_cases::stated),
+    (3, "stated before lines changed", stated_cases::stated_before_lines_changed),
+    (4, "all codes stated", stated_cases::all_codes_stated),
     (8, "lines disturbed", line_cases::lines_disturbed),
     (10, "bytes edited", edit_cases::bytes_edited),
     (4, "truncated", edit_cases::truncated),

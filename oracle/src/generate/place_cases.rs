@@ -24,7 +24,11 @@ pub fn block_file(random: &mut Random, codes: &[&str]) -> Draft {
         all.extend(["0990", opening.as_str()]);
     }
     all.extend(codes);
-    all.extend([closing.as_str(), "9001", "9990", "9999"]);
+    all.push(closing.as_str());
+    if block != "9" {
+        all.extend(["9001", "9990"]);
+    }
+    all.push("9999");
     bare_file(random, &all)
 }
 
@@ -47,7 +51,7 @@ pub fn unknown_code(random: &mut Random, room: usize) -> Vec<u8> {
         2 => code[..3].to_vec(),
         3 => [&code[..], b"0"].concat(),
         4 => [b" ", &code[..]].concat(),
-        5 => random.pick(&["8001", "9020", "9900", "Z001", "C002", "0999"]).as_bytes().to_vec(),
+        5 => random.pick(&["8002", "9021", "9901", "Z001", "C002", "0999", "8520", "7990"]).as_bytes().to_vec(),
         6 => random.digits(4),
         7 => random.text(300),
         _ => random.text(4),
@@ -106,7 +110,7 @@ pub fn frame_line_twice(random: &mut Random, room: usize) -> Vec<u8> {
 
 /// Cases of the document's list and its traps, in place or not.
 pub fn known_traps(random: &mut Random, _room: usize) -> Vec<u8> {
-    let traps: [&[&str]; 14] = [
+    let traps: [&[&str]; 24] = [
         &["0175"],
         &["0150", "0175", "0200", "0175"],
         &["0150", "0200", "0205", "0175"],
@@ -121,6 +125,16 @@ pub fn known_traps(random: &mut Random, _room: usize) -> Vec<u8> {
         &["E300", "E340", "E500", "E540", "E300", "E340"],
         &["E300", "E500", "E340"],
         &["G020", "G460"],
+        &["8500", "8505", "8525"],
+        &["8500", "8505", "8515", "8525", "8510", "8525"],
+        &["8500", "8530", "8535", "8545", "8540"],
+        &["8500", "8545", "8560", "8545", "8560", "8565"],
+        &["8500", "8545", "8560", "8550", "8565"],
+        &["8500", "8545", "8580", "8585", "8585", "8585", "8585", "8590", "8585"],
+        &["8160", "8165", "8170", "8180"],
+        &["8020", "8050", "8020", "8050", "8165"],
+        &["9020", "9030", "9040", "9900", "9030"],
+        &["9900", "9020", "9040", "9030", "9900"],
     ];
     let codes = *random.pick(&traps);
     block_file(random, codes).write()
@@ -139,16 +153,18 @@ pub fn opening_lies(random: &mut Random, room: usize) -> Vec<u8> {
 
 /// 6: one more than allowed under one parent line, or one under each of two.
 pub fn one_more(random: &mut Random, room: usize) -> Vec<u8> {
-    let single: Vec<usize> = (0..rows().len())
-        .filter(|&row| rows()[row].is_data() && rows()[row].limit == Some(1))
+    let soon_over = |limit: usize| limit < 5;
+    let limited: Vec<usize> = (0..rows().len())
+        .filter(|&row| rows()[row].is_data() && rows()[row].limit.is_some_and(soon_over))
         .collect();
-    let row = *random.pick(&single);
+    let row = *random.pick(&limited);
     let parent = rows()[row].parent.unwrap();
     let mut draft = good_file_with(random, room.min(200), row);
     let code = rows()[row].code.as_bytes();
     let place = *random.pick(&draft.places_of(code));
-    let again = good_line(random, row, BARE);
-    draft.lines.insert(place + 1, again);
+    for _ in 0..rows()[row].limit.unwrap_or(1) {
+        draft.lines.insert(place + 1, good_line(random, row, BARE));
+    }
     // a new parent line between the two starts the count again
     if rows()[parent].is_data() && random.percent(50) {
         draft.lines.insert(place + 1, good_line(random, parent, BARE));

@@ -1,5 +1,6 @@
 //! Chance from a seed (splitmix64), the same on every machine.
 
+#[derive(Clone)]
 pub struct Random {
     state: u64,
 }

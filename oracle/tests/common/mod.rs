@@ -39,7 +39,8 @@ pub fn bare(code: &str, fields: usize) -> String {
 /// The first two lines of Base, block 0 with no data, and an opening saying 0.
 pub fn upto_block(block: &str) -> Vec<String> {
     let mut lines: Vec<String> = BASE[..3].iter().map(|line| line.to_string()).collect();
-    lines.push(format!("|{block}001|0|"));
+    // the opening of block 8 has a field more
+    lines.push(format!("|{block}001|0|{}", if block == "8" { "|" } else { "" }));
     lines
 }
 

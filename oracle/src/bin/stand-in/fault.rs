@@ -6,6 +6,7 @@ use crate::{
     check_digits, counts, forgives, forgives_fields, joins, lost_totals, positions, refuses_fields,
     says, sees, totals,
 };
+use oracle::rows::Counts;
 use oracle::{Answer, Totals};
 
 pub struct Fault {
@@ -22,7 +23,7 @@ pub struct Fault {
     pub totals: fn(&Shown) -> Totals,
     /// The counts of its report, given the bytes it saw and whether finish was
     /// asked.
-    pub counts: fn(&[u8], bool) -> [u64; 98],
+    pub counts: fn(&[u8], bool) -> Counts,
     /// The report's lines and bytes, given all bytes, what it says of them and
     /// whether finish was asked.
     pub numbers: fn(&[u8], Answer, bool) -> (u64, u64),
@@ -72,7 +73,7 @@ const fn totalling(name: &'static str, totals: fn(&Shown) -> Totals) -> Fault {
     Fault { name, totals, ..NONE }
 }
 
-const fn counting(name: &'static str, counts: fn(&[u8], bool) -> [u64; 98]) -> Fault {
+const fn counting(name: &'static str, counts: fn(&[u8], bool) -> Counts) -> Fault {
     Fault { name, counts, ..NONE }
 }
 

@@ -2,6 +2,7 @@
 
 use crate::Answers;
 use oracle::compare::{answer_text, counts_text, with_totals, Command};
+use oracle::rows::ROWS;
 use oracle::Checker;
 
 #[derive(Default)]
@@ -18,8 +19,8 @@ impl Answers for Honest {
             }
             Command::Piece(piece) => answer_text(self.checker.piece(piece)),
             Command::Finish => answer_text(self.checker.finish()),
-            Command::Counts => self.report(98),
-            Command::ShortCounts => self.report(97),
+            Command::Counts => self.report(ROWS),
+            Command::ShortCounts => self.report(ROWS - 1),
         };
         Some(with_totals(text, &self.checker.totals()))
     }

@@ -71,10 +71,10 @@ pub fn backwards(shown: &Shown) -> Totals {
     totals
 }
 
-/// Digits go before letters: 0, 9, C, E, F, G, H.
+/// Digits go before letters: 0, 8, 9, C, E, F, G, H.
 pub fn in_order_of_bytes(shown: &Shown) -> Totals {
     let mut totals = shown.totals();
-    totals[1..].rotate_right(1);
+    totals[1..].rotate_right(2);
     totals
 }
 

@@ -76,7 +76,7 @@ fn serve(answers: &mut dyn Answers, name: &str) -> io::Result<ExitCode> {
         }
     }
     if name == "one-line-more" {
-        writeln!(to, "open 0 0 totals 0 0 0 0 0 0 0")?;
+        writeln!(to, "open 0 0 totals 0 0 0 0 0 0 0 0")?;
     }
     to.flush()?;
     Ok(ExitCode::from(if name == "bad-status" { 3 } else { 0 }))

@@ -1,6 +1,6 @@
 //! Right judgement, wrong answer.
 
-use oracle::rows::{row_with_code, rows, Row};
+use oracle::rows::{row_with_code, rows, Row, ROWS};
 use oracle::{Answer, BAR, LF};
 
 fn lines_in(bytes: &[u8]) -> u64 {
@@ -42,15 +42,14 @@ pub fn is_not_14(answer: &Answer) -> bool {
     !matches!(answer, Answer::Refused { number: 14, .. })
 }
 
-/// Refuses by 6 where a row goes over its limit, lines counted over the file,
-/// but C300 anew from each line of the code `restart`.
-fn limited(all: &[u8], answer: Answer, limit: fn(&Row) -> Option<usize>, restart: &str) -> Answer {
+/// Refuses by 6 where a row goes over its limit, lines counted over the file or
+/// anew from each parent line.
+fn limited(all: &[u8], answer: Answer, limit: fn(&Row) -> Option<usize>, anew: bool) -> Answer {
     let judged = match answer {
         Answer::Open { bytes, .. } | Answer::Accepted { bytes, .. } => bytes,
         Answer::Refused { bytes, .. } => bytes,
     };
-    let c300 = row_with_code(b"C300").expect("a known code");
-    let mut seen = [0; 98];
+    let mut seen = [0; ROWS];
     let mut start = 0;
     for (place, line) in all[..judged as usize].split_inclusive(|&byte| byte == LF).enumerate() {
         let code = line.get(1..5).filter(|_| line.get(5) == Some(&BAR));
@@ -59,8 +58,8 @@ fn limited(all: &[u8], answer: Answer, limit: fn(&Row) -> Option<usize>, restart
             if limit(&rows()[row]).is_some_and(|limit| seen[row] > limit) {
                 return refusal(6, place as u64, 1, start + 6);
             }
-            if rows()[row].code == restart {
-                seen[c300] = 0;
+            for child in (0..ROWS).filter(|&child| anew && rows()[child].parent == Some(row)) {
+                seen[child] = 0;
             }
         }
         start += line.len() as u64;
@@ -69,11 +68,11 @@ fn limited(all: &[u8], answer: Answer, limit: fn(&Row) -> Option<usize>, restart
 }
 
 pub fn counts_over_file(all: &[u8], answer: Answer) -> Answer {
-    limited(all, answer, |row| row.limit.filter(|_| row.is_data()), "")
+    limited(all, answer, |row| row.limit.filter(|_| row.is_data()), false)
 }
 
 pub fn refuses_990th(all: &[u8], answer: Answer) -> Answer {
-    limited(all, answer, |row| row.limit.filter(|&limit| limit == 990).map(|_| 989), "C020")
+    limited(all, answer, |row| row.limit.filter(|&limit| limit == 990).map(|_| 989), true)
 }
 
 /// Gives another number where the refusing byte is of this sort.
