@@ -11,9 +11,9 @@ const STAND_IN: &str = env!("CARGO_BIN_EXE_stand-in");
 /// kind and those with some 990 lines of a row.
 const SHORT_RUN: &str = "720";
 
-/// Faults that only the longest files show, so that a short run passes.
-const SEEN_IN_LONG_RUNS: [&str; 3] =
-    ["counts-in-16-bits", "totals-in-16-bits", "totals-at-most-65535"];
+/// Faults of the process, which no answer alone shows.
+const OF_PROCESS: [&str; 6] =
+    ["ends-early", "one-line-more", "bad-status", "says-nothing", "no-last-lf", "no-totals"];
 
 fn kept(name: &str) -> PathBuf {
     let path = Path::new(env!("CARGO_TARGET_TMPDIR")).join("comparison").join(name);
@@ -102,13 +102,30 @@ fn short_runs_say_what_they_did_not_show() {
     assert!(output.status.success() && !said.contains("a short run"), "{said}");
 }
 
+/// Cases and expected answers are the same for all faults, so that they are
+/// made once, in the stand-in. Each of its lines gives a fault, how many cases
+/// it was fed, and in how many an answer differs, at all and beside its totals.
 #[test]
 fn every_fault_is_caught() {
+    let output = Command::new(STAND_IN).args(["--caught", "1", SHORT_RUN]).output().unwrap();
+    let said = text(&output);
+    let mut lines: Vec<Vec<&str>> = said.lines().map(|line| line.split(' ').collect()).collect();
+    assert_eq!(lines.pop().map(|line| (line[0], line[2])), Some(("no-fault", "0")));
+    let names: Vec<&str> = lines.iter().map(|line| line[0]).collect();
     let faults = faults();
-    assert_eq!(faults.len(), 151);
-    for fault in faults.iter().filter(|fault| !SEEN_IN_LONG_RUNS.contains(&fault.as_str())) {
-        assert_caught(fault, &["--cases", SHORT_RUN]);
+    assert!(names.iter().chain(&OF_PROCESS).eq(&faults));
+    assert_eq!(faults.len(), 249);
+    for line in lines {
+        let [name, _, differing, beside] = line[..] else { panic!("{line:?}") };
+        assert_ne!(differing, "0", "{name}");
+        // the totals must not be what gives the others away
+        assert_eq!(beside == "0", name.contains("total"), "{name}");
     }
+}
+
+#[test]
+fn faults_of_the_process_are_caught() {
+    OF_PROCESS.iter().for_each(|fault| assert_caught(fault, &["--cases", SHORT_RUN]));
 }
 
 #[test]
@@ -127,15 +144,14 @@ fn faults_are_caught_with_other_seeds() {
         ("total-rises-at-finish", "12"),
         ("totals-lost-after-18", "13"),
         ("totals-at-most-255", "14"),
+        ("second-statement-overwrites", "15"),
+        ("23-before-13", "16"),
+        ("stated-wraps-64", "17"),
+        ("8545-only-one", "18"),
+        ("23-at-lf", "19"),
     ] {
         assert_caught(fault, &["--cases", SHORT_RUN, "--seed", seed]);
     }
-}
-
-#[test]
-#[ignore = "takes two minutes and more"]
-fn faults_that_long_runs_show() {
-    SEEN_IN_LONG_RUNS.iter().for_each(|fault| assert_caught(fault, &[]));
 }
 
 /// A kind with a fault in it is never refused with equal answers, and the
@@ -255,5 +271,36 @@ fn the_kept_batch_shows_the_faults_in_totals() {
     let is_long = |fault: &str| fault.contains("-bits") || fault.contains("at-most");
     for fault in faults().iter().filter(|fault| fault.contains("total")) {
         assert_eq!(fed(&[fault], &commands) == answers, is_long(fault), "{fault}");
+    }
+}
+
+/// So it shows these in what 9900 lines state.
+#[test]
+fn the_kept_batch_shows_the_faults_in_statements() {
+    let (commands, answers) = stored(["11", "200"], &kept("stored-statements"), "batch");
+    for fault in [
+        "no-23",
+        "23-without-9999",
+        "23-of-lines-before-it",
+        "no-row-is-true",
+        "no-row-is-refused",
+        "short-code-is-refused",
+        "any-case-of-stated-code",
+        "empty-number-is-0",
+        "empty-number-is-true",
+        "13-for-empty-number",
+        "stated-wraps-32",
+        "stated-wraps-64",
+        "stated-zeros-refused",
+        "23-names-no-field",
+        "23-at-lf",
+        "23-does-not-hold",
+        "23-at-9900",
+        "stated-number-lost-at-cut",
+        "stated-code-lost-at-cut",
+        "counts-9999-after-23",
+        "block-8-unknown",
+    ] {
+        assert_ne!(fed(&[fault], &commands), answers, "{fault}");
     }
 }

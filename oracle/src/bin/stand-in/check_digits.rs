@@ -2,7 +2,7 @@
 //! here anew, so that the files are not made from the faults they must show.
 
 use crate::forgives_fields::{forgive, refused_field};
-use crate::refuses_fields::refuse;
+use crate::refuses_fields::{refuse, Field};
 use crate::says::{forgiven, refusal};
 use oracle::kinds::{Kind, Role};
 use oracle::{Answer, CheckedNumber};
@@ -50,7 +50,7 @@ fn checked_number(kind: Kind) -> Option<CheckedNumber> {
 
 /// Each CNPJ and CPF is judged by this alone, be it right or wrong.
 fn judged(all: &[u8], answer: Answer, is_right: fn(CheckedNumber, &[u8]) -> bool) -> Answer {
-    let answer = refuse(all, answer, 24, |(kind, text)| {
+    let answer = refuse(all, answer, 24, |Field { kind, text, .. }| {
         !text.is_empty() && checked_number(kind).is_some_and(|checked| !is_right(checked, text))
     });
     forgive(all, answer, 24, |refused| {
@@ -109,7 +109,7 @@ pub fn equal_digits_forgiven(all: &[u8], answer: Answer) -> Answer {
 }
 
 pub fn equal_digits_refused(all: &[u8], answer: Answer) -> Answer {
-    refuse(all, answer, 24, |(kind, text)| checked_number(kind).is_some() && is_one_digit(text))
+    refuse(all, answer, 24, |Field { kind, text, .. }| checked_number(kind).is_some() && is_one_digit(text))
 }
 
 fn is_one_digit(text: &[u8]) -> bool {
@@ -117,23 +117,33 @@ fn is_one_digit(text: &[u8]) -> bool {
 }
 
 pub fn empty_refused(all: &[u8], answer: Answer) -> Answer {
-    refuse(all, answer, 24, |(kind, text)| checked_number(kind).is_some() && text.is_empty())
+    refuse(all, answer, 24, |Field { kind, text, .. }| checked_number(kind).is_some() && text.is_empty())
 }
 
-/// EQP_CNPJ is the only other field of 14 digits.
+/// Fields of 14 and 11 digits that are none by their name.
 pub fn eqp_cnpj_judged(all: &[u8], answer: Answer) -> Answer {
-    judged_by_size(all, answer, 14, CheckedNumber::Cnpj)
+    judged_by_size(all, answer, b"F205", CheckedNumber::Cnpj)
 }
 
-/// NIRE is the only other field of 11 digits.
 pub fn nire_judged(all: &[u8], answer: Answer) -> Answer {
-    judged_by_size(all, answer, 11, CheckedNumber::Cpf)
+    judged_by_size(all, answer, b"0000", CheckedNumber::Cpf)
 }
 
-fn judged_by_size(all: &[u8], answer: Answer, size: usize, checked: CheckedNumber) -> Answer {
-    refuse(all, answer, 24, |(kind, text)| {
-        let is_other = kind.role == Role::Plain && kind.numeric && kind.size == Some(size);
-        is_other && !text.is_empty() && !are_right(checked, text, right_digit)
+pub fn arq_cnpj_judged(all: &[u8], answer: Answer) -> Answer {
+    judged_by_size(all, answer, b"9020", CheckedNumber::Cnpj)
+}
+
+pub fn arq_cpf_judged(all: &[u8], answer: Answer) -> Answer {
+    judged_by_size(all, answer, b"9020", CheckedNumber::Cpf)
+}
+
+/// The field of this row that is as long as such a number, but none.
+fn judged_by_size(all: &[u8], answer: Answer, code: &[u8], checked: CheckedNumber) -> Answer {
+    refuse(all, answer, 24, |field| {
+        let is_other = field.kind.role == Role::Plain && field.kind.numeric;
+        let is_as_long = field.kind.size == Some(checked.digits_before() + 2);
+        let is_judged = field.code == code && is_other && is_as_long && !field.text.is_empty();
+        is_judged && !are_right(checked, field.text, right_digit)
     })
 }
 

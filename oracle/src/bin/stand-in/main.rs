@@ -1,8 +1,10 @@
 //! stand-in [FAULT]: stands in for the program under test, to test the
 //! comparison itself. It answers with the oracle's own checker, or with a
 //! fault planted. `stand-in --faults` lists the faults; `stand-in no-fault`
-//! is the checker they are planted in.
+//! is the checker they are planted in; `stand-in --caught SEED CASES` says
+//! which of them show.
 
+mod caught;
 mod check_digits;
 mod counts;
 mod fault;
@@ -11,12 +13,16 @@ mod forgives;
 mod forgives_fields;
 mod honest;
 mod joins;
+mod late_blocks;
 mod lost_totals;
 mod positions;
 mod refuses_fields;
 mod says;
 mod sees;
 mod shown;
+mod statement_answers;
+mod statements;
+mod stating;
 mod told;
 mod totals;
 
@@ -40,6 +46,12 @@ fn main() -> io::Result<ExitCode> {
     if name == "--faults" {
         let names = FAULTS.iter().map(|fault| fault.name).chain(OF_PROCESS);
         names.for_each(|name| println!("{name}"));
+        return Ok(ExitCode::SUCCESS);
+    }
+    if name == "--caught" {
+        let mut numbers = std::env::args().skip(2).map(|word| word.parse().expect("a number"));
+        let (seed, cases) = (numbers.next().expect("a seed"), numbers.next().expect("cases"));
+        caught::print_caught(seed, cases as usize);
         return Ok(ExitCode::SUCCESS);
     }
     match FAULTS.iter().chain([&NONE]).find(|fault| fault.name == name) {

@@ -52,6 +52,26 @@ pub fn h_in_g(shown: &Shown) -> Totals {
     by_other_letter(shown, |line| if letter(line) == b'H' { b'G' } else { letter(line) })
 }
 
+pub fn eight_in_h(shown: &Shown) -> Totals {
+    by_other_letter(shown, |line| if letter(line) == b'8' { b'H' } else { letter(line) })
+}
+
+pub fn eight_in_9(shown: &Shown) -> Totals {
+    by_other_letter(shown, |line| if letter(line) == b'8' { b'9' } else { letter(line) })
+}
+
+pub fn nine_in_8(shown: &Shown) -> Totals {
+    by_other_letter(shown, |line| if letter(line) == b'9' { b'8' } else { letter(line) })
+}
+
+pub fn without_8(shown: &Shown) -> Totals {
+    without(shown, |line| letter(line) == b'8')
+}
+
+pub fn without_9900(shown: &Shown) -> Totals {
+    without(shown, |line| code(line) == b"9900")
+}
+
 /// Both lines of level 0 are taken for lines of block 0.
 pub fn end_in_block_0(shown: &Shown) -> Totals {
     by_other_letter(shown, |line| if code(line) == b"9999" { b'0' } else { letter(line) })
