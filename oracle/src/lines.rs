@@ -84,7 +84,8 @@ impl<'a> Lines<'a> {
     }
 
     pub fn file_is_whole(&self) -> bool {
-        self.last().is_some_and(|line| line.row().code == "9999")
+        // 9999 is the last row; asked for every byte, so that no text is compared
+        self.last().is_some_and(|line| line.row == ROWS - 1)
     }
 
     pub fn per_row(&self) -> Counts {

@@ -80,7 +80,12 @@ pub fn rows() -> &'static [Row] {
 }
 
 pub fn row_with_code(code: &[u8]) -> Option<usize> {
-    rows().iter().position(|row| row.code.as_bytes() == code)
+    // asked for every line of every file, so that texts are not compared
+    static CODES: OnceLock<Vec<[u8; 4]>> = OnceLock::new();
+    let four_bytes = |row: &Row| row.code.as_bytes().try_into().expect("a code has four bytes");
+    let codes = CODES.get_or_init(|| rows().iter().map(four_bytes).collect());
+    let code: [u8; 4] = code.try_into().ok()?;
+    codes.iter().position(|other| *other == code)
 }
 
 fn read_rows() -> Vec<Row> {
@@ -182,6 +187,17 @@ mod tests {
             ("8590", 1),
         ];
         assert!(limited.eq(wanted));
+    }
+
+    #[test]
+    fn rows_by_their_codes() {
+        for (place, row) in rows().iter().enumerate() {
+            assert_eq!(row_with_code(row.code.as_bytes()), Some(place));
+        }
+        for code in ["", "999", "99999", "c300", "C30\0", "9998"] {
+            assert_eq!(row_with_code(code.as_bytes()), None, "{code}");
+        }
+        assert_eq!(rows()[ROWS - 1].code, "9999");
     }
 
     #[test]

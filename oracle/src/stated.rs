@@ -10,8 +10,8 @@ use crate::BAR;
 
 /// 23: a stated number of a code is untrue.
 pub fn untrue_statement(spot: &Spot) -> Option<usize> {
-    let is_9999 = spot.line_row()?.code == "9999";
-    let is_count = is_9999 && spot.field == 2 && spot.byte == BAR;
+    let ends_field_2 = spot.field == 2 && spot.byte == BAR;
+    let is_count = ends_field_2 && spot.line_row()?.code == "9999";
     (is_count && !all_true(spot.before)).then_some(spot.field)
 }
 

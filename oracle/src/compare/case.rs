@@ -68,7 +68,7 @@ impl Plan {
             None => chance_file(&mut random),
         };
         let simple = match file.feed {
-            Feed::MostlyShort => random.percent(90),
+            Feed::MostlyShort => random.percent(94),
             Feed::Plainly => true,
             _ => false,
         };
@@ -218,7 +218,7 @@ mod tests {
         let texts: Vec<String> = cases().map(|case| case.about).collect();
         for way in ways {
             let count = texts.iter().filter(|text| text.ends_with(&format!("; {way}"))).count();
-            let least = if way == "cut through the statements" { 20 } else { 50 };
+            let least = if way == "cut through the statements" { 10 } else { 50 };
             assert!(count > least, "{way}: {count}");
         }
     }

@@ -15,7 +15,7 @@ const SHORT: usize = 150;
 const OF_FEW_LINES: usize = 600;
 
 /// The most rounds in which a file's statements are cut.
-const MOST_ROUNDS: usize = 40;
+const MOST_ROUNDS: usize = 30;
 
 /// About how many bytes the oracle may judge for one case, pieces joined anew
 /// for each answer.
@@ -24,7 +24,7 @@ const JUDGED: usize = 40_000;
 /// Rounds of a way chosen by chance, and its name.
 pub fn cut_file(random: &mut Random, bytes: &[u8]) -> (&'static str, Vec<Pieces>) {
     let chance = random.below(100);
-    if has_statement(bytes) && bytes.len() <= OF_FEW_LINES && random.percent(30) {
+    if has_statement(bytes) && bytes.len() <= OF_FEW_LINES && random.percent(10) {
         return cut_through_statements(bytes);
     }
     match (bytes.len() <= SHORT, chance) {
