@@ -107,7 +107,9 @@ fn every_row_over_its_limit_is_met() {
             *over.entry(row as u64).or_default() += 1;
         }
     }
-    let limited = rows().iter().filter(|row| row.is_data() && row.limit.is_some_and(|limit| limit < 5)).count();
+    let is_soon_over = |limit: usize| limit < 5;
+    let data = rows().iter().filter(|row| row.is_data());
+    let limited = data.filter(|row| row.limit.is_some_and(is_soon_over)).count();
     assert_eq!(over.len(), limited);
 }
 

@@ -40,6 +40,8 @@ pub fn bare_file(random: &mut Random, codes: &[&str]) -> Draft {
     draft
 }
 
+const NO_ROWS: [&str; 8] = ["8002", "9021", "9901", "Z001", "C002", "0999", "8520", "7990"];
+
 /// 3: a code that no row has.
 pub fn unknown_code(random: &mut Random, room: usize) -> Vec<u8> {
     let mut draft = good_file(random, room);
@@ -51,7 +53,7 @@ pub fn unknown_code(random: &mut Random, room: usize) -> Vec<u8> {
         2 => code[..3].to_vec(),
         3 => [&code[..], b"0"].concat(),
         4 => [b" ", &code[..]].concat(),
-        5 => random.pick(&["8002", "9021", "9901", "Z001", "C002", "0999", "8520", "7990"]).as_bytes().to_vec(),
+        5 => random.pick(&NO_ROWS).as_bytes().to_vec(),
         6 => random.digits(4),
         7 => random.text(300),
         _ => random.text(4),

@@ -165,7 +165,8 @@ pub fn code_as_start(all: &[u8], answer: Answer) -> Answer {
 
 pub fn three_bytes_of_code(all: &[u8], answer: Answer) -> Answer {
     counted(all, answer, |stating, one| {
-        stating.count(|code| code.len() == one.code.len() && code.iter().zip(one.code).take(3).all(|(a, b)| a == b))
+        let start = |code: &[u8]| code.get(..3).map(<[u8]>::to_vec);
+        stating.count(|code| code.len() == one.code.len() && start(code) == start(one.code))
     })
 }
 
