@@ -15,7 +15,7 @@ const SHORT: usize = 150;
 const OF_FEW_LINES: usize = 600;
 
 /// The most rounds in which a file's statements are cut.
-const MOST_ROUNDS: usize = 30;
+const MOST_ROUNDS: usize = 50;
 
 /// About how many bytes the oracle may judge for one case, pieces joined anew
 /// for each answer.

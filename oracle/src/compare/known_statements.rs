@@ -264,6 +264,18 @@ mod tests {
         }
     }
 
+    /// A round for each byte of the 9900 line and of 9999, and one for all.
+    #[test]
+    fn those_cut_finely_are_cut_at_every_byte() {
+        for file in &first_statements()[..CUT_FINELY] {
+            let lines = || file.bytes.split_inclusive(|&byte| byte == crate::LF);
+            let length = |start: &[u8]| lines().find(|line| line.starts_with(start)).unwrap().len();
+            let places = length(b"|9900|") + 1 + length(b"|9999|") + 1;
+            let (_, rounds) = crate::compare::cuts::cut_through_statements(&file.bytes);
+            assert_eq!(rounds.len(), places + 1, "{}", file.about);
+        }
+    }
+
     #[test]
     fn the_first_of_them_are_in_a_stored_run() {
         let plan = Plan::new(11);
