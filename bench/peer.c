@@ -42,8 +42,8 @@
 enum role { START, OPENING, DATA, CLOSING, END };
 
 /*
- * The 98 rows: block, number, fields, level, most under one parent line (0 is
- * any number), parent, role, kinds of the fields after the first.
+ * The rows: block, number, fields, level, most under one parent line (0 is any
+ * number), parent, role, kinds of the fields after the first.
  */
 #define ROWS(X)                                       \
     X(0, 000, 20, 0, 1, NONE, START, kinds_0000)      \
@@ -141,20 +141,56 @@ enum role { START, OPENING, DATA, CLOSING, END };
     X(H, 050, 3, 3, 0, H020, DATA, kinds_H050)        \
     X(H, 060, 3, 3, 0, H020, DATA, kinds_H060)        \
     X(H, 990, 2, 1, 1, H001, CLOSING, closing)        \
+    X(8, 001, 3, 1, 1, NONE, OPENING, kinds_8001)     \
+    X(8, 020, 4, 2, 0, 8001, DATA, kinds_8020)        \
+    X(8, 030, 11, 3, 0, 8020, DATA, kinds_8030)       \
+    X(8, 040, 8, 3, 0, 8020, DATA, kinds_8040)        \
+    X(8, 050, 4, 3, 1, 8020, DATA, kinds_8050)        \
+    X(8, 100, 4, 2, 0, 8001, DATA, kinds_8100)        \
+    X(8, 110, 6, 3, 0, 8100, DATA, kinds_8110)        \
+    X(8, 160, 4, 2, 0, 8001, DATA, kinds_8160)        \
+    X(8, 165, 6, 3, 1, 8160, DATA, kinds_8165)        \
+    X(8, 170, 7, 4, 0, 8165, DATA, kinds_8170)        \
+    X(8, 175, 5, 4, 0, 8165, DATA, kinds_8175)        \
+    X(8, 180, 6, 5, 0, 8175, DATA, kinds_8180)        \
+    X(8, 300, 4, 2, 0, 8001, DATA, kinds_8300)        \
+    X(8, 310, 10, 3, 0, 8300, DATA, kinds_8310)       \
+    X(8, 500, 4, 2, 0, 8001, DATA, kinds_8500)        \
+    X(8, 505, 6, 3, 0, 8500, DATA, kinds_8505)        \
+    X(8, 510, 4, 4, 0, 8505, DATA, kinds_8510)        \
+    X(8, 515, 2, 4, 0, 8505, DATA, kinds_8515)        \
+    X(8, 525, 7, 5, 0, 8515, DATA, kinds_8525)        \
+    X(8, 530, 11, 3, 0, 8500, DATA, kinds_8530)       \
+    X(8, 535, 9, 4, 990, 8530, DATA, kinds_8535)      \
+    X(8, 540, 8, 4, 0, 8530, DATA, kinds_8540)        \
+    X(8, 545, 4, 3, 0, 8500, DATA, kinds_8545)        \
+    X(8, 550, 4, 4, 0, 8545, DATA, kinds_8550)        \
+    X(8, 555, 4, 4, 0, 8545, DATA, kinds_8555)        \
+    X(8, 560, 12, 4, 1, 8545, DATA, kinds_8560)       \
+    X(8, 565, 3, 5, 0, 8560, DATA, kinds_8565)        \
+    X(8, 570, 12, 4, 1, 8545, DATA, kinds_8570)       \
+    X(8, 580, 10, 4, 1, 8545, DATA, kinds_8580)       \
+    X(8, 585, 5, 5, 4, 8580, DATA, kinds_8585)        \
+    X(8, 590, 15, 4, 1, 8545, DATA, kinds_8590)       \
+    X(8, 990, 2, 1, 1, 8001, CLOSING, closing)        \
     X(9, 001, 2, 1, 1, NONE, OPENING, opening)        \
+    X(9, 020, 21, 2, 0, 9001, DATA, kinds_9020)       \
+    X(9, 030, 3, 3, 0, 9020, DATA, kinds_9030)        \
+    X(9, 040, 12, 3, 0, 9020, DATA, kinds_9040)       \
+    X(9, 900, 3, 2, 0, 9001, DATA, kinds_9900)        \
     X(9, 990, 2, 1, 1, 9001, CLOSING, closing)        \
     X(9, 999, 2, 0, 1, 9990, END, closing)
 
 #define ROW_NUMBER(block, number, ...) ROW_##block##number,
 enum { ROWS(ROW_NUMBER) ROW_NONE };
-static_assert(ROW_NONE == 98, "98 rows");
+static_assert(ROW_NONE == 134, "134 rows");
 
 /* The blocks in the order they come in. */
-enum { BLOCK_0, BLOCK_C, BLOCK_E, BLOCK_F, BLOCK_G, BLOCK_H, BLOCK_9, BLOCK_NONE };
-static_assert(BLOCK_NONE == 7, "7 blocks");
+enum { BLOCK_0, BLOCK_C, BLOCK_E, BLOCK_F, BLOCK_G, BLOCK_H, BLOCK_8, BLOCK_9, BLOCK_NONE };
+static_assert(BLOCK_NONE == 8, "8 blocks");
 
 /* A code's four bytes as one number; the digits are the number's nibbles. */
-enum { AT_0 = '0', AT_C = 'C', AT_E = 'E', AT_F = 'F', AT_G = 'G', AT_H = 'H', AT_9 = '9' };
+enum { AT_0 = '0', AT_C = 'C', AT_E = 'E', AT_F = 'F', AT_G = 'G', AT_H = 'H', AT_8 = '8', AT_9 = '9' };
 #define NIBBLES(n) (((n)&0xF00u) << 8 | ((n)&0x0F0u) << 4 | ((n)&0x00Fu))
 #define CODE_OF(block, number) ((uint32_t)AT_##block << 24 | 0x303030u | NIBBLES(0x##number##u))
 
@@ -174,13 +210,13 @@ static const struct row rows[] = {ROWS(ROW)};
     static_assert(sizeof kinds == (fields - 1) * sizeof kinds[0], "a kind for each field but the first");
 ROWS(HAS_ITS_KINDS)
 #define AND_FIELDS(block, number, fields, ...) +fields
-static_assert(ROWS(AND_FIELDS) == 995, "995 fields");
+static_assert(ROWS(AND_FIELDS) == 1238, "1238 fields");
 
 /*
  * From code to row without a search. No two codes have the same slot: if two
  * had, the compiler would warn of a slot filled twice (-Wextra).
  */
-#define SLOT(code) ((uint32_t)((code)*0xC31A8DDDu) >> 23)
+#define SLOT(code) ((uint32_t)((code)*0x162954F1u) >> 23)
 #define FILL(block, number, ...) [SLOT(CODE_OF(block, number))] = ROW_##block##number,
 static const uint8_t slots[512] = {ROWS(FILL)};
 
@@ -208,6 +244,8 @@ enum stage {
     IN_DATE = DATE,
     IN_CHECKED = CHECKED,
     IN_COUNT = COUNT,
+    IN_NAMED = NAMED,
+    IN_STATED = STATED,
     LINE_START,
     CODE,
     LINE_END,
@@ -229,7 +267,7 @@ struct checker {
     uint64_t value; /* of its digits, see VALUE_FULL */
     uint64_t comma; /* the length with the comma, 0 before it comes */
     uint64_t wrong; /* the length with the first byte that may not stand there, likewise */
-    uint8_t digits[CNPJ_SIZE]; /* of a CNPJ or CPF */
+    uint8_t kept[CNPJ_SIZE]; /* the first bytes of a CNPJ, a CPF or a code stated */
 
     /* the line in hand, its open lines by level, and its block */
     const struct row *row;
@@ -244,11 +282,18 @@ struct checker {
     uint32_t counts[ROW_NONE];
     uint32_t totals[BLOCK_NONE]; /* for each block: its lines ended */
 
+    /* for each row, and last for codes that are none: how often they are stated to occur, see UNTRUE */
+    uint64_t stated[ROW_NONE + 1];
+    unsigned named; /* by the line in hand */
+
     unsigned refusal, refused_field; /* where the stage is REFUSED */
 };
 
 /* Counts and dates are below this; a value that has come so far stays there. */
 #define VALUE_FULL UINT64_C(10000000000)
+
+/* Of a code's statements is kept: 0 if there is none, else the number and 1, or this if they can't all be true. */
+#define UNTRUE UINT64_MAX
 
 static void start(struct checker *c)
 {
@@ -265,6 +310,11 @@ static enum stage refuse(struct checker *c, unsigned number, uint32_t field)
 }
 
 /* ------------------------------------------- field 1: may the line stand? */
+
+static uint32_t four_bytes(const uint8_t *at)
+{
+    return (uint32_t)at[0] << 24 | (uint32_t)at[1] << 16 | (uint32_t)at[2] << 8 | at[3];
+}
 
 static const struct row *find_row(uint32_t code, uint64_t length)
 {
@@ -457,14 +507,46 @@ static unsigned judge_date(const struct checker *c)
 static unsigned judge_checked(const struct checker *c)
 {
     unsigned number = judge_digits(c);
-    return number == 0 && c->length != 0 && !is_checked(c->digits, c->kind->size) ? 24 : number;
+    return number == 0 && c->length != 0 && !is_checked(c->kept, c->kind->size) ? 24 : number;
+}
+
+static unsigned judge_named(struct checker *c)
+{
+    const struct row *row = find_row(four_bytes(c->kept), c->length);
+    c->named = row == NULL ? ROW_NONE : row->number;
+    return judge_text(c);
+}
+
+/* An empty number is never true, and two different ones are not both true. */
+static unsigned judge_stated(struct checker *c)
+{
+    uint64_t stated = c->length == 0 ? UNTRUE : c->value + 1;
+    uint64_t *kept = &c->stated[c->named];
+    *kept = *kept == 0 || *kept == stated ? stated : UNTRUE;
+    return judge_digits(c);
+}
+
+static bool is_true(uint64_t kept, uint64_t times)
+{
+    return kept == 0 || kept == times + 1;
+}
+
+/* At the file's last line, which is not ended yet. */
+static bool all_stated_is_true(const struct checker *c)
+{
+    for (unsigned row = 0; row < ROW_NONE; row++)
+        if (!is_true(c->stated[row], row == ROW_9999 ? 1 : c->counts[row]))
+            return false;
+    return is_true(c->stated[ROW_NONE], 0);
 }
 
 static unsigned judge_count(const struct checker *c)
 {
     if (c->wrong)
         return 10;
-    return c->length == 0 || c->value != c->count ? 13 : 0;
+    if (c->length == 0 || c->value != c->count)
+        return 13;
+    return c->row->role == END && !all_stated_is_true(c) ? 23 : 0;
 }
 
 static unsigned judge_field(struct checker *c)
@@ -484,8 +566,12 @@ static unsigned judge_field(struct checker *c)
         return judge_date(c);
     case CHECKED:
         return judge_checked(c);
-    default:
+    case COUNT:
         return judge_count(c);
+    case NAMED:
+        return judge_named(c);
+    default:
+        return judge_stated(c);
     }
 }
 
@@ -546,14 +632,15 @@ static place take_decimals(struct checker *c, place from, place end)
     return at;
 }
 
-static place take_checked(struct checker *c, place at, place end)
+/* A code that is stated may have any bytes. */
+static place take_kept(struct checker *c, place at, place end)
 {
     uint64_t length = c->length;
     for (; at != end && !special[*at]; at++, length++) {
-        if (!digit[*at])
+        if (!digit[*at] && c->kind->form == CHECKED)
             take_wrong(c, length);
-        else if (length < CNPJ_SIZE)
-            c->digits[length] = *at;
+        if (length < CNPJ_SIZE)
+            c->kept[length] = *at;
     }
     return at;
 }
@@ -688,11 +775,6 @@ static enum stage begin_field(struct checker *c, place *at, place last)
     return (enum stage)c->kind->form;
 }
 
-static uint32_t four_bytes(place at)
-{
-    return (uint32_t)at[0] << 24 | (uint32_t)at[1] << 16 | (uint32_t)at[2] << 8 | at[3];
-}
-
 static enum stage begin_row(struct checker *c, const struct row *row, place *at, place last)
 {
     unsigned number = judge_row(c, row);
@@ -801,7 +883,8 @@ static enum stage go_on(struct checker *c, enum stage stage, place *at, place en
     case FILE_END:
         return file_end(c, at);
     case IN_CHECKED:
-        to = take_checked(c, *at, end);
+    case IN_NAMED:
+        to = take_kept(c, *at, end);
         break;
     default:
         to = take_value(c, *at, end);

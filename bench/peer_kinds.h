@@ -1,8 +1,8 @@
 /*
- * What the fields of the 98 rows hold, from field 2 on, as the sheets of
- * Appendix B say it in their columns type, size and decimals; a name that
- * begins DT_, CNPJ or CPF says more. 2.6.1 says how many fields a row has; one
- * that no sheet gives is C without a size.
+ * What the fields of the rows hold, from field 2 on, as the sheets of Appendix
+ * B say it in their columns type, size and decimals; a name that begins DT_,
+ * CNPJ or CPF says more. 2.6.1 says how many fields a row has; one that no
+ * sheet gives is C without a size.
  */
 #ifndef PEER_KINDS_H
 #define PEER_KINDS_H
@@ -10,15 +10,16 @@
 #include <stddef.h>
 #include <stdint.h>
 
-enum form { TEXT, FIXED, DIGITS, DECIMALS, MARK, DATE, CHECKED, COUNT };
+enum form { TEXT, FIXED, DIGITS, DECIMALS, MARK, DATE, CHECKED, COUNT, NAMED, STATED };
 
 #define CNPJ_SIZE 14
 #define CPF_SIZE 11
 
 /*
- * The size is the most bytes of TEXT, the bytes of FIXED, MARK, DATE and
- * CHECKED and of DIGITS (0: any number), and for DECIMALS the digits after the
- * comma. The last two digits of CHECKED are made from those before.
+ * The size is the most bytes of TEXT and NAMED, the bytes of FIXED, MARK, DATE
+ * and CHECKED and of DIGITS and STATED (0: any number), and for DECIMALS the
+ * digits after the comma. The last two digits of CHECKED are made from those
+ * before. STATED is how many lines of the file have the code NAMED before it.
  */
 struct kind {
     uint8_t form;
@@ -281,5 +282,79 @@ static const struct kind kinds_H030[] = {
 static const struct kind kinds_H040[] = {N(1), D(2)};
 static const struct kind kinds_H050[] = {N(1), D(2)};
 static const struct kind kinds_H060[] = {N(8), D(2)};
+
+/* The sheets fix a text for UF, here, and for two fields of 9020: only those of 0000 are judged. */
+static const struct kind kinds_8001[] = {{MARK, 1, NULL}, C(2)};
+static const struct kind kinds_8020[] = {N(1), DT, DT};
+static const struct kind kinds_8030[] = {
+    N(1), N(1), N(1), N(7), D(2), D(2), D(2), D(2), D(2), D(4),
+};
+static const struct kind kinds_8040[] = {
+    N(1), D(2), D(2), N(4), D(2), D(2), D(2),
+};
+static const struct kind kinds_8050[] = {D(2), D(2), D(4)};
+static const struct kind kinds_8100[] = {N(1), DT, DT};
+static const struct kind kinds_8110[] = {N(1), D(2), D(2), D(2), D(2)};
+/* The sheet's column for decimals repeats the fields' numbers. */
+static const struct kind kinds_8160[] = {N(1), DT, DT};
+static const struct kind kinds_8165[] = {D(2), D(2), D(2), D(2), D(2)};
+static const struct kind kinds_8170[] = {
+    D(2), D(2), C_255, N(1), C_255, C_255,
+};
+static const struct kind kinds_8175[] = {N(1), D(2), C_255, C_255};
+static const struct kind kinds_8180[] = {N(1), D(2), C_255, C_255, C_255};
+static const struct kind kinds_8300[] = {N(1), DT, DT};
+static const struct kind kinds_8310[] = {
+    N(1), N(2), D(2), D(2), D(2), D(2), D(2), D(2), D(2),
+};
+static const struct kind kinds_8500[] = {N(1), DT, DT};
+static const struct kind kinds_8505[] = {N(1), N(5), DT, N_ANY, N(1)};
+static const struct kind kinds_8510[] = {N(5), DT, N_ANY};
+static const struct kind kinds_8515[] = {N_ANY};
+static const struct kind kinds_8525[] = {
+    C_255, C_255, N(10), C_255, D(2), N(4),
+};
+static const struct kind kinds_8530[] = {
+    N(1), N(1), C_255, C(2), C_255, N_ANY, DT, D(2), D(2), D(2),
+};
+static const struct kind kinds_8535[] = {
+    N_ANY, C_255, N(4), D(2), D(2), D(2), N_ANY, N_ANY,
+};
+static const struct kind kinds_8540[] = {
+    D(2), N(4), D(2), D(2), D(2), N_ANY, N_ANY,
+};
+static const struct kind kinds_8545[] = {C(5), N_ANY, N_ANY};
+static const struct kind kinds_8550[] = {D(2), N(4), D(2)};
+static const struct kind kinds_8555[] = {N(2), D(2), D(2)};
+static const struct kind kinds_8560[] = {
+    D(2), D(2), D(2), D(2), D(2), D(2), D(2), D(2), D(2), D(2),
+    D(2),
+};
+static const struct kind kinds_8565[] = {N(3), D(2)};
+static const struct kind kinds_8570[] = {
+    D(2), D(2), D(2), D(2), D(2), D(2), D(2), D(2), D(2), D(2),
+    D(2),
+};
+static const struct kind kinds_8580[] = {
+    D(2), D(2), D(2), D(2), D(2), D(2), D(2), D(2), D(2),
+};
+static const struct kind kinds_8585[] = {N(1), D(2), D(2), D(2)};
+static const struct kind kinds_8590[] = {
+    D(2), D(2), D(2), D(2), D(2), D(2), D(2), D(2), D(2), D(2),
+    D(2), D(2), D(2), D(2),
+};
+
+/* ARQ_DT_INI, ARQ_CNPJ and ARQ_CPF are names that do not begin DT_, CNPJ or CPF. */
+static const struct kind kinds_9020[] = {
+    C(4), N(8), N(8), C_255, N(14), C(2), C(14), N(7), C_255, C(0),
+    C(9), N(4), N(1), N(2), C(6), N(11), C_255, N_ANY, C_255, C(128),
+};
+/* It counts the lines of another file. */
+static const struct kind kinds_9030[] = {C(4), N_ANY};
+static const struct kind kinds_9040[] = {
+    C_255, C_255, N(8), N(8), C_255, N(8), N(8), C_255, N(3), C(65536),
+    C(65536),
+};
+static const struct kind kinds_9900[] = {{NAMED, 4, NULL}, {STATED, 0, NULL}};
 
 #endif
