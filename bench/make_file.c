@@ -17,6 +17,13 @@ static uint64_t seed;
 static uint64_t bytes_written, lines_written, lines_before_block;
 static unsigned participants, items, documents, item_number;
 
+#define CODE_SIZE 4
+#define MOST_CODES 200
+
+/* How many lines of each code are written, in the order the codes came first. */
+static struct { char code[CODE_SIZE]; uint64_t lines; } tallies[MOST_CODES];
+static unsigned codes;
+
 /* ---------------------------------------------------------------- chance */
 
 static uint64_t number(void)
@@ -104,6 +111,14 @@ static void put_checked(int count, int greatest)
     }
     for (int i = 0; i < count; i++)
         put_number((uint64_t)digits[i], 1);
+}
+
+/* Of Base64, as certificates, signatures and hashes are. */
+static void put_letters(unsigned count)
+{
+    static const char letters[] = "ABCDEFGHIJKLMNOPQRSTUVWXYZabcdefghijklmnopqrstuvwxyz0123456789+/";
+    for (; count > 0; count--)
+        put_part(&letters[below(64)], 1);
 }
 
 static void put_date(void)
@@ -209,6 +224,9 @@ static bool number_content(char letter)
     case 'Y': put_digits(4); return true;
     case 'Z': put("0,00"); return true;
     case 'd': put_code("", 789000000 + items, 13); return true;
+    case 'e': put_amount(4); return true;
+    case 'i': put_digits(10); return true;
+    case 'j': put_digits(5); return true;
     case 'p': put_code("P", participants, 6); return true;
     case 'q': put_digits(9); return true;
     case 'x': put_checked(9, 11); return true;
@@ -257,9 +275,12 @@ static void content(char letter)
     case 'T': put_phone(); break;
     case 'a': put_street(); break;
     case 'f': put_firm(); break;
+    case 'k': put_letters(between(1500, 2500)); break;
     case 'l': put_remark(); break;
     case 'n': put_person(); break;
     case 'r': put_product(); break;
+    case 's': put_letters(344); break;
+    case 't': put_letters(88); break;
     default: fprintf(stderr, "make_file: no content %c\n", letter); exit(2);
     }
 }
@@ -275,18 +296,34 @@ static void field(const char *word, size_t length)
     put("|");
 }
 
+/* One more line of the code that the pattern begins with. */
+static void tally(const char *pattern)
+{
+    unsigned i = 0;
+    while (i < codes && memcmp(tallies[i].code, pattern, CODE_SIZE) != 0)
+        i++;
+    if (i == MOST_CODES) {
+        fputs("make_file: too many codes\n", stderr);
+        exit(2);
+    }
+    if (i == codes)
+        memcpy(tallies[codes++].code, pattern, CODE_SIZE);
+    tallies[i].lines++;
+}
+
 static void line(const char *pattern)
 {
     put("|");
-    put_part(pattern, 4);
+    put_part(pattern, CODE_SIZE);
     put("|");
-    for (const char *word = pattern + 4; *word == ' ';) {
+    for (const char *word = pattern + CODE_SIZE; *word == ' ';) {
         size_t length = strcspn(++word, " ");
         field(word, length);
         word += length;
     }
     put("\r\n");
     lines_written++;
+    tally(pattern);
 }
 
 static void some(unsigned least, unsigned most, const char *pattern)
@@ -295,18 +332,21 @@ static void some(unsigned least, unsigned most, const char *pattern)
         line(pattern);
 }
 
+static void some_times(unsigned least, unsigned most, void (*group)(void))
+{
+    for (unsigned left = between(least, most); left > 0; left--)
+        group();
+}
+
 static void perhaps(unsigned chance, const char *pattern)
 {
     if (tenths(chance))
         line(pattern);
 }
 
-static void opening(const char *code, char mark)
+static void opening(const char *pattern)
 {
-    char pattern[] = "x001 =x";
-    pattern[0] = code[0];
-    pattern[6] = mark;
-    lines_before_block = code[0] == '0' ? 0 : lines_written;
+    lines_before_block = pattern[0] == '0' ? 0 : lines_written;
     line(pattern);
 }
 
@@ -324,7 +364,7 @@ static void closing(const char *code, uint64_t more)
 static void taxpayer(void)
 {
     line("0000 =LFPD =01012012 =31012012 f J =PE q W X - q =2000 =0 =20 =Brasil f X - -");
-    opening("0", '0');
+    opening("0001 =0");
     line("0005 n =205 x C a R c4 b C5 R3 T T3 E");
     some(1, 4, "0025 =PE001 =RE002");
     line("0030 =0 =1 =0 =2 =0 =0 =1 =1 =0 =1 =0 =0 =1 =1 =0 =0 =1");
@@ -419,7 +459,7 @@ static void coupon(void)
 
 static void block_c(uint64_t end)
 {
-    opening("C", '0');
+    opening("C001 =0");
     fill(part(70, end), invoice);
     fill(part(5, end), consumer_note);
     fill(end, coupon);
@@ -499,7 +539,7 @@ static void ipi_assessment(void)
 
 static void block_e(uint64_t end)
 {
-    opening("E", '0');
+    opening("E001 =0");
     further_fields();
     fill(part(75, end), entry);
     fill(part(10, end), day_of_notes);
@@ -541,7 +581,7 @@ static void fuel(void)
 
 static void block_f(uint64_t end)
 {
-    opening("F", '0');
+    opening("F001 =0");
     printed_documents();
     line("F200 =1 =01012012 =31012012");
     some(2, 6, "F205 R f J r B");
@@ -558,7 +598,7 @@ static void documents_of_a_kind(void)
 
 static void block_g(uint64_t end)
 {
-    opening("G", '0');
+    opening("G001 =0");
     line("G020 =0 =01012012 =31012012");
     fill(end, documents_of_a_kind);
     some(1, 5, "G030 =2D R R R R R V Z V V2");
@@ -580,7 +620,7 @@ static void stocked_item(void)
 
 static void block_h(uint64_t end)
 {
-    opening("H", '0');
+    opening("H001 =0");
     line("H020 =0 =31122011 V V Z V V Z V X o2");
     fill(end, stocked_item);
     some(1, 3, "H040 B V");
@@ -589,9 +629,120 @@ static void block_h(uint64_t end)
     closing("H990", 0);
 }
 
+static void municipality(void)
+{
+    line("8030 =0 B B W V Z Z V V e");
+}
+
+static void added_value(uint64_t end)
+{
+    line("8020 =0 =01012012 =31012012");
+    fill(end, municipality);
+    line("8030 =1 B B W V Z Z V V e");
+    some(5, 15, "8040 =1 V Z F Z V V");
+    line("8050 V V e");
+}
+
+static void goods_bought(void)
+{
+    line("8100 =0 =01012012 =31012012");
+    some(1, 4, "8110 B V V V V");
+}
+
+static void credit_gathered(void)
+{
+    line("8160 =0 =01012012 =31012012");
+    line("8165 V V V V V");
+    some(1, 4, "8170 V V X3 B l2 l1");
+    for (unsigned left = between(1, 4); left > 0; left--) {
+        line("8175 B V q3 l2");
+        some(0, 2, "8180 B V H q3 l1");
+    }
+}
+
+static void supplies(void)
+{
+    line("8300 =0 =01012012 =31012012");
+    some(4, 12, "8310 =1 G V Z Z V V V2 Z");
+}
+
+static void benefit(void)
+{
+    line("8505 =1 j D B B");
+    perhaps(4, "8510 j D B");
+    for (unsigned left = between(1, 3); left > 0; left--) {
+        line("8515 =2");
+        some(1, 5, "8525 I r i U A =0012");
+    }
+}
+
+static void favoured_document(void)
+{
+    documents++;
+    line("8530 B B P M =1 N D V V V");
+    unsigned left = between(1, 12);
+    for (item_number = 1; left > 0; left--, item_number++)
+        line("8535 O I F V A V B B3");
+    some(1, 4, "8540 V F V A V B B3");
+}
+
+static void favoured_assessment(void)
+{
+    line("8545 =PE001 =2 B3");
+    some(3, 10, "8550 V F V");
+    some(3, 8, "8555 G V V");
+    line("8560 V V Z V V V Z Z V Z V");
+    some(0, 3, "8565 H V");
+    line("8570 A V V V V V V V V V V");
+    line("8580 V V Z A V V V V V");
+    some(1, 4, "8585 B V V V");
+    line("8590 A Z V A Z V V V V V V A V V");
+}
+
+static void block_8(uint64_t end)
+{
+    opening("8001 =0 =PE");
+    added_value(part(30, end));
+    goods_bought();
+    credit_gathered();
+    supplies();
+    line("8500 =0 =01012012 =31012012");
+    some_times(1, 3, benefit);
+    fill(end, favoured_document);
+    some_times(1, 3, favoured_assessment);
+    closing("8990", 0);
+}
+
+static void associated_file(void)
+{
+    line("9020 =LFPD =01012012 =31012012 f J S q W X3 - q1 =2000 =0 =20 =Brasil - f R =lfpd012012.txt t");
+    some(5, 20, "9030 =C300 R");
+    line("9040 =ACRFB X =31122013 C =1.2.840.113549.1.1.5 =10022012 C n =205 k s");
+}
+
+static void statement(const char *code, uint64_t number)
+{
+    char pattern[40];
+    snprintf(pattern, sizeof pattern, "9900 =%.*s =%llu", CODE_SIZE, code, (unsigned long long)number);
+    line(pattern);
+}
+
+/* Of every code: those of the lines before, and those of the lines from here on. */
+static void statements(void)
+{
+    unsigned before = codes;
+    for (unsigned i = 0; i < before; i++)
+        statement(tallies[i].code, tallies[i].lines);
+    statement("9900", before + 3);
+    statement("9990", 1);
+    statement("9999", 1);
+}
+
 static void block_9(void)
 {
-    opening("9", '1');
+    opening("9001 =0");
+    some_times(1, 3, associated_file);
+    statements();
     closing("9990", 1);
     lines_before_block = 0;
     closing("9999", 0);
@@ -605,12 +756,14 @@ int main(int argc, char **argv)
     }
     seed = strtoull(argv[1], NULL, 10);
     uint64_t bytes = strtoull(argv[2], NULL, 10);
-    block_0(bytes * 18 / 100);
-    block_c(bytes * 62 / 100);
-    block_e(bytes * 88 / 100);
-    block_f(bytes * 93 / 100);
-    block_g(bytes * 95 / 100);
-    block_h(bytes);
+    uint64_t before_8 = bytes * 96 / 100; /* for blocks 0 to H: the rest is for block 8, and block 9 comes on top */
+    block_0(before_8 * 18 / 100);
+    block_c(before_8 * 62 / 100);
+    block_e(before_8 * 88 / 100);
+    block_f(before_8 * 93 / 100);
+    block_g(before_8 * 95 / 100);
+    block_h(before_8);
+    block_8(bytes);
     block_9();
     return fflush(stdout) == 0 && !ferror(stdout) ? 0 : 2;
 }
