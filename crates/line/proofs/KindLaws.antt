@@ -7,6 +7,7 @@ use native.Mathlib.Nat.{le-refl}
 use lib.Dec.{T, eqb}
 use lib.Ieee.Bits.{is-true}
 use borrow.Author.Tests.{not-true}
+use Rattle.layout.specs.Lists.{allBelow}
 use Rattle.layout.specs.Text.{bytes, codeNumber, textNumber}
 use Rattle.layout.specs.Rows.{rowTable, rowCount, none, row9999, listed, code, fields, isOpening, isClosing}
 use Rattle.layout.specs.Kind.{Kind}
@@ -15,7 +16,7 @@ use Rattle.layout.specs.Kinds.{kindOf, sheetOf, fitted, kindsOf, kind}
 use Rattle.layout.specs.Packed.{kindNumber}
 use Rattle.rules.specs.Fields.{formOf}
 use Rattle.rules.proofs.TestLaws.{split, both}
-use Rattle.layout.proofs.Below.{below, those}
+use Rattle.layout.proofs.Below.{those}
 use Rattle.layout.proofs.Every.{every}
 use Rattle.layout.proofs.KindLaws.{kinds-none, kinds-pass}
 
@@ -34,7 +35,7 @@ abbrev other : ℕ → Bool
 other r = not (isClosing r || eqb r row9999)
 
 rows-countless : T (those rowCount other (λ r. every noCount (kindsOf r)))
-unfolding those below every formOf kindsOf fitted kindOf sheetOf sheets isOpening isClosing fields code listed rowTable
+unfolding those allBelow every formOf kindsOf fitted kindOf sheetOf sheets isOpening isClosing fields code listed rowTable
     textNumber codeNumber bytes
 rows-countless = tt
 

@@ -1,4 +1,5 @@
 pub mod Steps
+pub mod StatementLaws
 pub mod RowLaws
 pub mod KindLaws
 pub mod HotOf

@@ -2,13 +2,14 @@
 use mathlib.Core.Path.{_≡_, _∙_, refl, sym}
 use mathlib.Core.Bool.{true, false, _&&_, _||_}
 use mathlib.Core.List.{List, [], _∷_}
-use Prim.Native.Nat.{ℕ, _<_, _≤_}
+use Prim.Native.Nat.{ℕ, _+_, _*_, _<_, _≤_}
 use lib.Dec.{eqb, ltb}
-use borrow.Author.Tests.{lt-ltb, eqb-true, eqb-false}
+use native.Mathlib.Omega.{arith}
+use borrow.Author.Tests.{ne-eqb, lt-ltb, eqb-true, eqb-false}
 use Rattle.layout.specs.Pick.{pick}
 use Rattle.layout.specs.Text.{bytes}
-use Rattle.layout.specs.Rows.{rowCount, isOpening, isClosing, parent, row0000, row9999}
-use Rattle.rules.specs.Bytes.{lines, rowOf, field, bars}
+use Rattle.layout.specs.Rows.{rowCount, isOpening, isClosing, parent, row0000, row9900, row9999}
+use Rattle.rules.specs.Bytes.{lines, rowOf, rowOfWord, field, bars}
 use Rattle.rules.specs.Order.{last, canStand, startsFile, startsBlock, endsFile, hasRoom, underParent, isData}
 use Rattle.rules.specs.Fields.{sameBytes, isText}
 use Rattle.rules.specs.Rules.{openedBy}
@@ -20,9 +21,10 @@ use Rattle.rules.proofs.OpenLaws.{hangs-climb, ends-last}
 use Rattle.rules.proofs.OccurrenceLaws.{stamps, occurrences, stampAt, stamped, occurred, stamps-at}
 use Rattle.rules.proofs.OccurrenceLaws.{occurrences-at, under-stamps, parent-other}
 use Rattle.rules.proofs.StatedLaws.{Opened}
-use Rattle.line.specs.Machine.{withData, withoutData, startsOf, endsOf, hangsOf, standsOf, entryOf, usedOf, roomOf}
+use Rattle.line.specs.Machine.{withData, withoutData, numberUnit, startsOf, endsOf, hangsOf, standsOf, entryOf, usedOf, roomOf}
 use Rattle.line.specs.Machine.{misplacedOf}
-use Rattle.line.proofs.HotOf.{says, lineSays, lastSays, says-early}
+use Rattle.line.proofs.StatementLaws.{statedBy, stated-some}
+use Rattle.line.proofs.HotOf.{says, saidBy, saysAt, lineSays, lastSays, says-early}
 
 -- 4: the row of the last line tells where a line can stand
 pub stands-is : (before : List ℕ) → Stood before → (r : ℕ) → r < rowCount → standsOf (last before) r ≡ canStand r before
@@ -56,11 +58,15 @@ says-text w e =
 
 line-says : (line : List ℕ) (before : List (List ℕ)) → Opened (line ∷ before)
     → (eqb (lineSays line) withData ≡ openedBy "0" (line ∷ before)) × (eqb (lineSays line) withoutData ≡ openedBy "1" (line ∷ before))
-unfolding lineSays openedBy
+unfolding saysAt saidBy openedBy
 line-says line before o =
     split (isOpening (rowOf line))
     (λ t. let q = says-text (field 2 line) (o .0 t) in (rw t (q .0), rw t (q .1)))
-    (λ t. (rw t, rw t))
+    (λ t. split (eqb (rowOf line) row9900)
+    (λ s. let some = stated-some (field 3 line) in
+    let said = rowOfWord (field 2 line) + numberUnit * statedBy (field 3 line) in
+    (rw (t, s) (ne-eqb said withData (λ e. omega arith)), rw (t, s) (ne-eqb said withoutData (λ e. omega arith))))
+    (λ s. (rw (t, s), rw (t, s))))
 
 last-says : (ls : List (List ℕ)) → Opened ls
     → (eqb (lastSays ls) withData ≡ openedBy "0" ls) × (eqb (lastSays ls) withoutData ≡ openedBy "1" ls)

@@ -25,16 +25,15 @@ use Rattle.rules.proofs.OccurrenceLaws.{stamps, occurrences}
 use Rattle.rules.proofs.CleanLaws.{Clean, clean-clear, clear-incomplete}
 use Rattle.rules.proofs.SoundLaws.{Sound, sound, word-row-known}
 use Rattle.rules.proofs.StatedLaws.{opened}
-use Rattle.field.specs.Streaming.{faultOf}
 use Rattle.field.proofs.LengthLaws.{length-is, code-is}
-use Rattle.line.specs.Machine.{grownOf, dueOf, wordRow, codeBarOf, fieldBarOf, barOf}
+use Rattle.line.specs.Machine.{grownOf, wordRow, foundOf, codeBarOf, fieldBarOf, barOf}
 use Rattle.line.specs.Machine.{controlOf, inFieldOf, pastOf, startOf, stepOf}
 use Rattle.line.specs.declared.hot.Hot.{Hot}
 use Rattle.line.specs.declared.step.Step.{Step}
 use Rattle.line.specs.declared.step.Step.the-variants.{Next, Broken}
 use Rattle.line.proofs.HotOf.{hotOf, hot-grown, hot-first, hot-coded, hot-moved, hot-ended}
 use Rattle.line.proofs.OrderSim.{stands-is, misplaced-is, room-is}
-use Rattle.line.proofs.FieldSim.{found, found-is, opening-told, field-fault-is}
+use Rattle.line.proofs.FieldSim.{holds, foundAt, found-is, opening-told, field-fault-is}
 
 -- the step that the rules ask for
 abbrev stepFor : Fault → Hot → Step
@@ -95,32 +94,32 @@ module _ (seen : List ℕ) (e : bars seen ≡ 1) where
       (λ c. rw c)))
 
 -- The bar after a later field.
-field-does : (seen : List ℕ) → 2 ≤ bars seen → Sound seen
-    → fieldBarOf (hotOf seen) (faultOf (hotOf seen .kind) (hotOf seen .field) (dueOf (hotOf seen)))
-    ≡ stepFor (fieldFault seen) (hotOf (bar ∷ seen))
+field-does : (seen : List ℕ) → 2 ≤ bars seen → bars seen ≤ fields (rowAtHand seen) → Sound seen
+    → fieldBarOf (hotOf seen) (foundOf (hotOf seen) (holds seen)) ≡ stepFor (fieldFault seen) (hotOf (bar ∷ seen))
 unfolding fieldBarOf
-field-does seen late s =
-    rw (found-is seen late s, field-fault-is seen)
-    (split (eqb (found seen) 0)
-    (λ t. rw (t, hot-moved seen late (s .known late .0) (opening-told seen (eqb-true (found seen) 0 t))))
+field-does seen late within s =
+    rw (found-is seen late s within, field-fault-is seen)
+    (split (eqb (foundAt seen) 0)
+    (λ t. rw (t, hot-moved seen late (s .known late .0) within (opening-told seen (eqb-true (foundAt seen) 0 t))))
     (λ t. rw t))
 
 -- Past the last field.
-end-does : (seen : List ℕ) (b : ℕ) → 3 ≤ bars seen → pastOf (hotOf seen) b ≡ stepFor (endFault seen b) (hotOf (b ∷ seen))
+end-does : (seen : List ℕ) (b : ℕ) → 3 ≤ bars seen → fields (rowAtHand seen) < bars seen
+    → pastOf (hotOf seen) b ≡ stepFor (endFault seen b) (hotOf (b ∷ seen))
 unfolding pastOf isEndByte
-end-does seen b h =
+end-does seen b h past =
     rw (empty-is seen)
     (split (empty (word seen))
     (λ t. rw t
     (split (eqb b CR)
     (λ c. rw (c, eqb-true b CR c, hot-grown seen CR refl refl))
     (λ c. rw c (split (eqb b LF) (λ d. rw d) (λ d. rw d)))))
-    (λ t. rw t (split (eqb b LF) (λ c. rw (c, eqb-true b LF c, hot-ended seen h)) (λ c. rw c))))
+    (λ t. rw t (split (eqb b LF) (λ c. rw (c, eqb-true b LF c, hot-ended seen h past)) (λ c. rw c))))
 
 -- A byte of a field, whichever it is.
 module _ (seen : List ℕ) (b : ℕ) (s : Sound seen) where
   abbrev inAt : Step
-  inAt = inFieldOf (hotOf seen) (stamps (rows seen)) (occurrences (rows seen)) b
+  inAt = inFieldOf (hotOf seen) (stamps (rows seen)) (occurrences (rows seen)) (holds seen) b
 
   code-step : bars seen ≡ 1 → Does seen b inAt
   unfolding inFieldOf barOf
@@ -135,7 +134,7 @@ module _ (seen : List ℕ) (b : ℕ) (s : Sound seen) where
   field-step h i =
       rw (fault-field seen b h i)
       (split (eqb b bar)
-      (λ t. rw (t, eqb-true b bar t, ne-eqb (bars seen) 1 (λ z. omega arith)) (field-does seen h s))
+      (λ t. rw (t, eqb-true b bar t, ne-eqb (bars seen) 1 (λ z. omega arith)) (field-does seen h (in-fields seen i) s))
       (λ t. rw t (byte-does seen b t)))
 
 -- After 9999's LF no byte passes, so that the file has ended only at the start of a line.
@@ -176,9 +175,10 @@ module _ (seen : List ℕ) (b : ℕ) (c : Clean seen) where
       go (ends h p) =
           let l = past-fields seen p in
           rw (ne-eqb (bars seen) 0 (λ z. omega arith), lt-ltb (fields (rowAtHand seen)) (bars seen) l, fault-past seen b p)
-          (end-does seen b (omega (arith, fields-two (rowAtHand seen) (s .known h .0))))
+          (end-does seen b (omega (arith, fields-two (rowAtHand seen) (s .known h .0))) l)
 
-  pub step-is : stepOf (hotOf seen) (stamps (rows seen)) (occurrences (rows seen)) b ≡ stepFor (fault seen b) (hotOf (b ∷ seen))
+  pub step-is : stepOf (hotOf seen) (stamps (rows seen)) (occurrences (rows seen)) (holds seen) b
+      ≡ stepFor (fault seen b) (hotOf (b ∷ seen))
   unfolding stepOf fault faultBy full
   step-is =
       split (leb byteLimit (length seen)) (λ t. rw t)

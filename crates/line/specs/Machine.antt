@@ -2,12 +2,13 @@
 use mathlib.Core.Bool.{Bool, not, _&&_, _||_}
 use mathlib.Core.Path.{_≡_}
 use mathlib.Core.List.{List}
-use Prim.Native.Nat.{ℕ, _+_, _≤_, _<_}
+use Prim.Native.Nat.{ℕ, suc, _+_, _-_, _*_, _%_, _≤_, _<_}
 use lib.Dec.{eqb, leb, ltb}
 use lib.ListN.{getD}
 use Rattle.layout.specs.Pick.{pick}
+use Rattle.layout.specs.Lists.{allBelow}
 use Rattle.layout.specs.Rows.{rowCount, none, anyNumber, level, limit, fields, mostFields, block}
-use Rattle.layout.specs.Rows.{parent, isOpening, isClosing, row0000, row9990, row9999, rowOfCode}
+use Rattle.layout.specs.Rows.{parent, isOpening, isClosing, row0000, row9900, row9990, row9999, rowOfCode}
 use Rattle.layout.specs.Kind.{opens}
 use Rattle.layout.specs.Kinds.{kind}
 use Rattle.layout.specs.Packed.{rowNumbers, parentColumn, packedKinds, startColumn, slotTable, codeClass, kindNumber, mostKind}
@@ -32,12 +33,27 @@ codeKind = codeClass
 abbrev pub codeOnly : ℕ
 codeOnly = 1
 
--- what an opening says: 1 for its field 2 being 0, 2 for 1; of any other line 0
+-- what an opening says: 1 for its field 2 being 0, 2 for 1
 abbrev pub withData : ℕ
 withData = 1
 
 abbrev pub withoutData : ℕ
 withoutData = 2
+
+-- what a 9900 line says: the row of the code in its field 2, and once field 3 has ended, so many times one more than the number there,
+-- in which no number, and one that the cap has cut, count as one that can't be true. Any other line says 0.
+abbrev pub numberUnit : ℕ
+numberUnit = 256
+
+abbrev pub untrue : ℕ
+untrue = cap + 1
+
+abbrev pub mostSays : ℕ
+mostSays = numberUnit * (untrue + 1) - 1
+
+-- the entries of the rows are at most m
+abbrev pub Below : ℕ → List ℕ → Type 0
+Below m xs = (k : ℕ) → k < rowCount → getD xs k 0 ≤ m
 
 -- what a step may be asked of: the ranges of the stored numbers (docs/STATE.md). The byte that breaks rule 16 is judged too, and
 -- past field 1 a line's row is known.
@@ -46,7 +62,7 @@ pub record HotFit (h : Hot) : Type 0 where
   pub lines : h .lines ≤ h .bytes
   pub last : h .last ≤ rowCount
   pub since : h .since ≤ h .bytes
-  pub says : h .says ≤ withoutData
+  pub says : h .says ≤ mostSays
   pub bars : h .bars ≤ mostBars
   pub row : h .row ≤ rowCount
   pub coded : 2 ≤ h .bars → h .row < rowCount
@@ -167,25 +183,55 @@ codeBarOf h stamps occurrences r =
 unfoldable pub dueOf : Hot → ℕ
 dueOf h = pick (eqb (h .row) row9999) (h .lines + 1) (h .since + 1 + pick (eqb (block (h .row)) (block row9999)) 1 0)
 
+-- the bar after a field of 9900
+unfoldable pub numberOf : Field → ℕ
+numberOf f = pick (eqb (f .length) 0) untrue (f .value + 1)
+
+unfoldable pub statesOf : Hot → ℕ
+statesOf h = pick (eqb (h .bars) 2) (wordRow h) (h .says % numberUnit + numberUnit * numberOf (h .field))
+
 unfoldable pub saysOf : Hot → ℕ
-saysOf h = pick (eqb (h .kind) (kindNumber opens)) (pick (eqb (h .field .value) 0) withData withoutData) (h .says)
+saysOf h =
+    pick (eqb (h .kind) (kindNumber opens)) (pick (eqb (h .field .value) 0) withData withoutData)
+    (pick (eqb (h .row) row9900) (statesOf h) (h .says))
+
+-- What the 9900 lines state of each row, and of no row: 0 for nothing, else one more than the number. Two statements of one row stay
+-- one, or can't both be true.
+unfoldable pub joinedOf : ℕ → ℕ → ℕ
+joinedOf stated new = pick (eqb stated 0) new (pick (eqb stated new) stated untrue)
+
+-- it is true of the whole file, 9999 included
+unfoldable pub occursOf : List ℕ → ℕ → ℕ
+occursOf counts r = entryOf counts r + pick (eqb r row9999) 1 0
+
+unfoldable pub holdsOf : List ℕ → List ℕ → ℕ → Bool
+holdsOf counts stated r = eqb (getD stated r 0) 0 || eqb (getD stated r 0) (occursOf counts r + 1)
+
+unfoldable pub allHoldOf : List ℕ → List ℕ → Bool
+allHoldOf counts stated = allBelow (suc rowCount) (holdsOf counts stated)
+
+-- the rule that the field at hand breaks, or 0; at the bar after field 2 of 9999, if it breaks none, all that is stated must hold
+unfoldable pub foundOf : Hot → Bool → ℕ
+foundOf h holds =
+    let n = faultOf (h .kind) (h .field) (dueOf h) in
+    pick (eqb n 0 && eqb (h .row) row9999 && not holds) 23 n
 
 unfoldable pub fieldBarOf : Hot → ℕ → Step
 fieldBarOf h n =
     pick (eqb n 0) (Next (movedOf h (h .row) (h .fields) (kindNumber (kind (h .row) (h .bars + 1))) (saysOf h)))
     (Broken n (h .bars))
 
-unfoldable pub barOf : Hot → List ℕ → List ℕ → Step
-barOf h stamps occurrences =
-    pick (eqb (h .bars) 1) (codeBarOf h stamps occurrences (wordRow h)) (fieldBarOf h (faultOf (h .kind) (h .field) (dueOf h)))
+unfoldable pub barOf : Hot → List ℕ → List ℕ → Bool → Step
+barOf h stamps occurrences holds =
+    pick (eqb (h .bars) 1) (codeBarOf h stamps occurrences (wordRow h)) (fieldBarOf h (foundOf h holds))
 
 -- A byte in a field, past the last field, and at a line's start.
 unfoldable pub controlOf : Hot → ℕ → Step
 controlOf h b = pick (eqb (h .field .length) 0 && isEndByte b) (Broken 7 (h .bars)) (Broken 2 (h .bars))
 
-unfoldable pub inFieldOf : Hot → List ℕ → List ℕ → ℕ → Step
-inFieldOf h stamps occurrences b =
-    pick (eqb b bar) (barOf h stamps occurrences) (pick (ltb b 32) (controlOf h b) (Next (grownOf h b)))
+unfoldable pub inFieldOf : Hot → List ℕ → List ℕ → Bool → ℕ → Step
+inFieldOf h stamps occurrences holds b =
+    pick (eqb b bar) (barOf h stamps occurrences holds) (pick (ltb b 32) (controlOf h b) (Next (grownOf h b)))
 
 unfoldable pub pastOf : Hot → ℕ → Step
 pastOf h b =
@@ -198,11 +244,12 @@ startOf h b =
     pick (eqb (h .last) row9999) (Broken 15 0)
     (pick (eqb b bar) (Next (movedOf h (h .row) (h .fields) codeKind (h .says))) (Broken 1 0))
 
-unfoldable pub stepOf : Hot → List ℕ → List ℕ → ℕ → Step
-stepOf h stamps occurrences b =
+-- (whether what is stated holds is asked at one bar of the file only)
+unfoldable pub stepOf : Hot → List ℕ → List ℕ → Bool → ℕ → Step
+stepOf h stamps occurrences holds b =
     pick (leb byteLimit (h .bytes)) (Broken 16 0)
     (pick (eqb (h .bars) 0) (startOf h b)
-    (pick (ltb (h .fields) (h .bars)) (pastOf h b) (inFieldOf h stamps occurrences b)))
+    (pick (ltb (h .fields) (h .bars)) (pastOf h b) (inFieldOf h stamps occurrences holds b)))
 
 -- The position in the field that the refusal by this rule gives, at the state before the refusing byte.
 unfoldable pub positionOf : Hot → ℕ → ℕ

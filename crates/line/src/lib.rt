@@ -1,4 +1,5 @@
 // One line as it streams through: where it can stand, its fields, its end; byte by byte.
 pub mod hot;
 pub mod order;
+pub mod statements;
 pub mod step;

@@ -18,6 +18,8 @@ use layout::rows::limit_at;
 
 const ROW_0000: usize = 0;
 
+pub const ROW_9900: usize = ROWS - 3;
+
 const ROW_9990: usize = ROWS - 2;
 
 pub const ROW_9999: usize = ROWS - 1;

@@ -1,30 +1,37 @@
 // One byte: the next state, or the broken rule with the field.
 ghost use mathlib.Core.Path.{_≡_};
-ghost use Prim.Native.Nat.{_≤_};
+ghost use Prim.Native.Nat.{_+_, _%_, _≤_};
+ghost use lib.Dec.{eqb};
 ghost use Rattle.layout.specs.Rows.{rowCount};
-ghost use Rattle.layout.specs.Packed.{rowNumbers, parentColumn, packedKinds, startColumn, slotTable, kindNumber};
+ghost use Rattle.layout.specs.Packed.{rowNumbers, parentColumn, packedKinds, startColumn, slotTable, kindNumber, sizeUnit, countClass};
+ghost use Rattle.layout.specs.Pick.{pick};
 ghost use Rattle.layout.specs.Kinds.{kind};
 ghost use Rattle.rules.specs.Bytes.{isEndByte};
-ghost use Rattle.field.specs.Streaming.{faultOf};
-ghost use Rattle.line.specs.Machine.{HotFit, Tables, wordRow, codeBarOf, dueOf, saysOf, fieldBarOf, barOf, controlOf};
-ghost use Rattle.line.specs.Machine.{pastOf, startOf, stepOf, positionOf};
+ghost use Rattle.rules.specs.Rules.{byteLimit};
+ghost use Rattle.line.specs.Machine.{Below, HotFit, Tables, wordRow, codeBarOf, dueOf, statesOf, saysOf, allHoldOf};
+ghost use Rattle.line.specs.Machine.{foundOf, fieldBarOf, barOf, controlOf, pastOf, startOf, stepOf, positionOf};
 use crate::hot::CODE_KIND;
 use crate::hot::Hot;
 use crate::hot::ended;
 use crate::hot::grown;
 use crate::hot::moved;
+use crate::order::ROW_9900;
 use crate::order::ROW_9999;
 use crate::order::WITH_DATA;
 use crate::order::WITHOUT_DATA;
 use crate::order::has_room;
 use crate::order::misplaced;
 use crate::order::stands;
+use crate::statements::NUMBER_UNIT;
+use crate::statements::all_hold;
+use crate::statements::number_of;
 use field::bytes::CLASS_COUNT;
 use field::bytes::CLASS_OPENS;
 use field::bytes::SIZE_UNIT;
 use field::bytes::wrong_at;
 use field::fault::WRONG_CHARACTERS;
 use field::fault::fault;
+use layout::blocks::BLOCKS;
 use layout::codes::SLOTS;
 use layout::codes::row_of_code;
 use layout::kinds::FIELDS;
@@ -67,11 +74,17 @@ const AFTER_9999: u64 = 15;
 
 pub const TOO_LONG: u64 = 16;
 
+// 02's: a stated number of a code is untrue.
+pub const UNTRUE_STATEMENT: u64 = 23;
+
 // A code's length.
 const CODE_LENGTH: u64 = 4;
 
+// The field of a 9900 line that has a code.
+const CODE_FIELD: u64 = 2;
+
 // The place of block 9 in the order of blocks.
-const LAST_BLOCK: u64 = 6;
+const LAST_BLOCK: u64 = BLOCKS as u64 - 1;
 
 // What stands past a row's fields.
 const NO_FIELD: u64 = layout::kinds::NO_FIELD as u64;
@@ -165,31 +178,70 @@ fn due(rows: &[[u64; 4]; ENTRIES], h: Hot) -> u64
     h.since + 1
 }
 
-// The rule that the field at hand breaks, or 0. What is due is asked of counts alone.
-fn found(rows: &[[u64; 4]; ENTRIES], h: Hot) -> u64
+// What is due of a count; of any other field nothing is.
+fn due_of_count(rows: &[[u64; 4]; ENTRIES], h: Hot) -> u64
     requires { ⌜ HotFit h ⌝ }
     requires { ⌜ now rows ≡ rowNumbers ⌝ }
-    ensures { λ n. ⌜ n ≡ faultOf (h .kind) (h .field) (dueOf h) ⌝ }
+    ensures { λ n. ⌜ n ≡ pick (eqb (h .kind % sizeUnit) countClass) (dueOf h) 0 ⌝ }
 {
     if h.kind % SIZE_UNIT == CLASS_COUNT {
-        return fault(h.kind, h.field, due(rows, h));
+        return due(rows, h);
     }
-    fault(h.kind, h.field, 0)
+    0
 }
 
-// Field 2 of an opening says whether data is to come.
-fn says(h: Hot) -> u64
+// The rule that the field at hand breaks, or 0; at field 2 of 9999 all that is stated must be true. (`fault` is called once, and so
+// stands in the byte loop itself.)
+fn found(rows: &[[u64; 4]; ENTRIES], h: Hot, counts: &[u64; ROWS], stated: &[u64; ENTRIES]) -> u64
+    requires { ⌜ HotFit h ⌝ }
+    requires { ⌜ now rows ≡ rowNumbers ⌝ }
+    requires { ⌜ Below (byteLimit + 1) (now counts) ⌝ }
+    ensures { λ n. ⌜ n ≡ foundOf h (allHoldOf (now (counts .entry)) (now (stated .entry))) ⌝ }
+{
+    let n = fault(h.kind, h.field, due_of_count(rows, h));
+    if n != 0 {
+        return n;
+    }
+    if h.row != ROW_9999 {
+        return 0;
+    }
+    if all_hold(counts, stated) {
+        0
+    } else {
+        UNTRUE_STATEMENT
+    }
+}
+
+// What a 9900 line says once field 2, or a later one, has ended.
+fn states(rows: &[[u64; 4]; ENTRIES], slots: &[usize; SLOTS], h: Hot) -> u64
+    requires { ⌜ HotFit h ⌝ }
+    requires { ⌜ (now rows ≡ rowNumbers) × (now slots ≡ slotTable) ⌝ }
+    ensures { λ n. ⌜ n ≡ statesOf h ⌝ }
+{
+    if h.bars == CODE_FIELD {
+        return word_row(rows, slots, h) as u64;
+    }
+    h.says % NUMBER_UNIT + NUMBER_UNIT * number_of(h.field)
+}
+
+// Field 2 of an opening says whether data is to come, a 9900 line how often a code occurs.
+fn says(rows: &[[u64; 4]; ENTRIES], slots: &[usize; SLOTS], h: Hot) -> u64
+    requires { ⌜ HotFit h ⌝ }
+    requires { ⌜ (now rows ≡ rowNumbers) × (now slots ≡ slotTable) ⌝ }
     ensures { λ n. ⌜ n ≡ saysOf h ⌝ }
 {
-    if h.kind != OPENS_KIND {
-        return h.says;
+    if h.kind == OPENS_KIND {
+        let f = h.field;
+        return if f.value == 0 {
+            WITH_DATA
+        } else {
+            WITHOUT_DATA
+        };
     }
-    let f = h.field;
-    if f.value == 0 {
-        WITH_DATA
-    } else {
-        WITHOUT_DATA
+    if h.row == ROW_9900 {
+        return states(rows, slots, h);
     }
+    h.says
 }
 
 // The bar after a later field, in which it found the broken rule n, or none.
@@ -198,10 +250,12 @@ fn field_bar(
     rows: &[[u64; 4]; ENTRIES],
     kinds: &[u32; FIELDS],
     starts: &[usize; ENTRIES],
+    slots: &[usize; SLOTS],
     n: u64,
 ) -> Step
     requires { ⌜ HotFit h ⌝ }
     requires { ⌜ (now rows ≡ rowNumbers) × (now kinds ≡ packedKinds) × (now starts ≡ startColumn) × (1 ≤ h .bars) ⌝ }
+    requires { ⌜ now slots ≡ slotTable ⌝ }
     ensures { λ t. ⌜ t ≡ fieldBarOf h n ⌝ }
 {
     if n != 0 {
@@ -213,7 +267,7 @@ fn field_bar(
         r,
         h.fields,
         kind_of(rows, kinds, starts, r, h.bars + 1),
-        says(h),
+        says(rows, slots, h),
     ))
 }
 
@@ -227,11 +281,14 @@ fn bar(
     slots: &[usize; SLOTS],
     stamps: &[u64; ROWS],
     occurrences: &[u64; ROWS],
+    counts: &[u64; ROWS],
+    stated: &[u64; ENTRIES],
 ) -> Step
     requires { ⌜ HotFit h ⌝ }
     requires { ⌜ Tables (now rows) (now parents) (now kinds) (now starts) (now slots) ⌝ }
+    requires { ⌜ Below (byteLimit + 1) (now counts) ⌝ }
     requires { ⌜ 1 ≤ h .bars ⌝ }
-    ensures { λ t. ⌜ t ≡ barOf h (now (stamps .entry)) (now (occurrences .entry)) ⌝ }
+    ensures { λ t. ⌜ t ≡ barOf h (now (stamps .entry)) (now (occurrences .entry)) (allHoldOf (now (counts .entry)) (now (stated .entry))) ⌝ }
 {
     if h.bars == 1 {
         return code_bar(
@@ -245,7 +302,14 @@ fn bar(
             word_row(rows, slots, h),
         );
     }
-    field_bar(h, rows, kinds, starts, found(rows, h))
+    field_bar(
+        h,
+        rows,
+        kinds,
+        starts,
+        slots,
+        found(rows, h, counts, stated),
+    )
 }
 
 fn is_end_byte(b: u8) -> bool
@@ -313,11 +377,14 @@ pub fn judge(
     slots: &[usize; SLOTS],
     stamps: &[u64; ROWS],
     occurrences: &[u64; ROWS],
+    counts: &[u64; ROWS],
+    stated: &[u64; ENTRIES],
     b: u8,
 ) -> Step
     requires { ⌜ HotFit h ⌝ }
     requires { ⌜ Tables (now rows) (now parents) (now kinds) (now starts) (now slots) ⌝ }
-    ensures { λ t. ⌜ t ≡ stepOf h (now (stamps .entry)) (now (occurrences .entry)) b ⌝ }
+    requires { ⌜ Below (byteLimit + 1) (now counts) ⌝ }
+    ensures { λ t. ⌜ t ≡ stepOf h (now (stamps .entry)) (now (occurrences .entry)) (allHoldOf (now (counts .entry)) (now (stated .entry))) b ⌝ }
 {
     if BYTE_LIMIT <= h.bytes {
         return Step::Broken(TOO_LONG, 0);
@@ -329,7 +396,18 @@ pub fn judge(
         return past(h, rows, b);
     }
     if b == BAR {
-        return bar(h, rows, parents, kinds, starts, slots, stamps, occurrences);
+        return bar(
+            h,
+            rows,
+            parents,
+            kinds,
+            starts,
+            slots,
+            stamps,
+            occurrences,
+            counts,
+            stated,
+        );
     }
     if b < BLANK {
         return control(h, b);

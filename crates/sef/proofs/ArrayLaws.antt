@@ -1,28 +1,35 @@
--- The four arrays after a byte that breaks no rule: what is kept for each row and each block is that of the lines ended.
-use mathlib.Core.Path.{_≡_, _∙_, sym, ap}
+-- The arrays after a byte that breaks no rule: what is kept for each row and each block is that of the lines ended.
+use mathlib.Core.Path.{_≡_, _∙_, refl, sym, ap}
+use mathlib.Core.Bool.{true}
 use mathlib.Core.List.{List, _∷_}
-use Prim.Native.Nat.{ℕ, _<_}
+use Prim.Native.Nat.{ℕ, suc, _+_, _<_}
+use native.Mathlib.Nat.{zero-add, add-mul-mod-self-left, mod-eq-of-lt, add-mul-div-left, div-eq-of-lt}
 use native.Mathlib.Numerals.{add-one}
+use native.Mathlib.Omega.{arith}
 use lib.Dec.{eqb}
 use lib.ListN.{set}
 use borrow.Author.Tests.{lt-ltb, eqb-true}
 use Rattle.layout.specs.Pick.{pick}
-use Rattle.layout.specs.Rows.{rowCount, block, blocks}
+use Rattle.layout.specs.Rows.{rowCount, none, row9900, row9999, block, blocks}
 use Rattle.layout.proofs.StartLaws.{block-below}
-use Rattle.rules.specs.Bytes.{LF, rows, rowAtHand}
+use Rattle.rules.specs.Bytes.{LF, lines, lineAtHand, field, rowOfWord, rows, rowAtHand}
 use Rattle.rules.specs.Counts.{linesOfRow, countsOfRows, totalsOfRows}
+use Rattle.rules.specs.Statements.{occurs}
 use Rattle.rules.specs.Rules.{clear, fault}
-use Rattle.rules.proofs.TestLaws.{split}
+use Rattle.rules.proofs.TestLaws.{split, pick-le}
 use Rattle.rules.proofs.AllRows.{stood-rows}
-use Rattle.rules.proofs.ByteLaws.{rows-on, rows-lf, lines-lf, rows-length}
-use Rattle.rules.proofs.FaultLaws.{past-late}
-use Rattle.rules.proofs.CountLaws.{counts-at, counts-line, totals-at, totals-line}
+use Rattle.rules.proofs.ByteLaws.{lines-on, rows-on, rows-lf, lines-lf, rows-length, bars-lines}
+use Rattle.rules.proofs.FaultLaws.{past-late, past-fields}
+use Rattle.rules.proofs.CountLaws.{lines-most, counts-at, counts-line, totals-at, totals-line}
 use Rattle.rules.proofs.OccurrenceLaws.{stamps, occurrences, stamps-line, occurrences-line}
 use Rattle.rules.proofs.CleanLaws.{Clean, clear-rules}
 use Rattle.rules.proofs.SoundLaws.{sound, lf-past}
-use Rattle.line.specs.Machine.{entryOf}
-use Rattle.sef.specs.Calls.{setOf, countsWith, stampsWith, occurrencesWith, raisedOf, totalsWith}
-use Rattle.line.proofs.HotOf.{hotOf}
+use Rattle.line.specs.Machine.{entryOf, numberUnit, allHoldOf}
+use Rattle.field.specs.Streaming.{cap}
+use Rattle.sef.specs.Calls.{setOf, countsWith, stampsWith, occurrencesWith, raisedOf, totalsWith, statedOf, statedWith}
+use Rattle.line.proofs.HotOf.{hotOf, says, says-stated}
+use Rattle.line.proofs.FieldSim.{holds}
+use Rattle.line.proofs.StatementLaws.{word-row-le, word-row-small, statedBy, statedOfRows, stated-other, stated-line, all-hold-is}
 use Rattle.line.proofs.OrderSim.{used-is}
 
 entry-count : (before : List ℕ) (r : ℕ) → r < rowCount → entryOf (countsOfRows before) r ≡ linesOfRow r before
@@ -78,3 +85,43 @@ module _ (seen : List ℕ) (b : ℕ) (c : Clean seen) (e : fault seen b ≡ clea
       (λ p row. let l = block-below (rowAtHand seen) row in
       rw (lt-ltb (block (rowAtHand seen)) blocks l, totals-at (rows seen) (block (rowAtHand seen)) l, add-one)
       (sym (totals-line (rows seen) (rowAtHand seen) l)))
+
+  -- and what is stated, at the row that a 9900 line speaks of
+  stated-lf : b ≡ LF → eqb (rowAtHand seen) row9900 ≡ true
+      → statedOf (statedOfRows (lines seen)) (says seen) ≡ statedOfRows (lines (b ∷ seen))
+  unfolding statedOf rowAtHand
+  stated-lf p s =
+      let past = past-fields seen (lf-past seen (rw p at (clear-rules seen b e))) in
+      let line = lineAtHand seen in
+      let said = says-stated seen past (eqb-true (rowAtHand seen) row9900 s) in
+      let small = word-row-small (field 2 line) in
+      let row = add-mul-mod-self-left (rowOfWord (field 2 line)) numberUnit (statedBy (field 3 line)) ∙ mod-eq-of-lt small in
+      let number =
+      add-mul-div-left (rowOfWord (field 2 line)) (statedBy (field 3 line)) {y = numberUnit} (omega arith)
+      ∙ ap (λ k. k + statedBy (field 3 line)) (div-eq-of-lt small) ∙ zero-add (statedBy (field 3 line))
+      in
+      let known = lt-ltb (rowOfWord (field 2 line)) (suc rowCount) (omega (arith, word-row-le (field 2 line))) in
+      rw (p, lines-lf seen, said, row, number, known)
+      (stated-line line (lines seen) s (rowOfWord (field 2 line)) refl)
+
+  pub stated-next : statedWith (hotOf seen) b (statedOfRows (lines seen)) ≡ statedOfRows (lines (b ∷ seen))
+  unfolding statedWith
+  stated-next =
+      split (eqb b LF)
+      (λ t. split (eqb (rowAtHand seen) row9900)
+      (λ s. rw (t, s) (stated-lf (eqb-true b LF t) s))
+      (λ s. rw (t, s, eqb-true b LF t, lines-lf seen) (sym (stated-other (lineAtHand seen) (lines seen) (unfold rowAtHand in s)))))
+      (λ t. rw (t, lines-on seen b t))
+
+-- rule 23, by what is kept
+module _ (seen : List ℕ) (c : Clean seen) where
+  few : (r : ℕ) → occurs r (row9999 ∷ rows seen) < cap
+  unfolding occurs
+  few r =
+      let lines = lines-most r (row9999 ∷ rows seen) in
+      let most = pick-le (eqb r none) 0 (linesOfRow r (row9999 ∷ rows seen)) _ (omega arith) lines in
+      omega (arith, most, rows-length seen, bars-lines seen, sound seen c .short)
+
+  pub holds-is : allHoldOf (countsOfRows (rows seen)) (statedOfRows (lines seen)) ≡ holds seen
+  unfolding rows
+  holds-is = all-hold-is (lines seen) few

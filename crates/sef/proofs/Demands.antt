@@ -18,7 +18,7 @@ use Rattle.rules.proofs.CountLaws.{counts-length}
 use Rattle.rules.proofs.FollowsLaws.{none-broken-open, follows-accepted, accepted-follows, first-refused, short-refused}
 use Rattle.rules.proofs.FollowsLaws.{refused-names}
 use Rattle.rules.proofs.TotalLaws.{accepted-last, accepted-sum, accepted-total, accepted-closing, accepted-first}
-use Rattle.rules.proofs.TotalLaws.{accepted-there, accepted-has-0-and-9}
+use Rattle.rules.proofs.TotalLaws.{accepted-there, accepted-has-0-and-9, accepted-statement}
 use Rattle.line.specs.Machine.{positionOf}
 use Rattle.sef.specs.Answers.{numbers, numbersOf, said, finallySaid, reportSaid}
 use Rattle.sef.specs.Calls.{openOf, stoppedOf, runOf, keptOf, unchanged, checkOf, finalAnswerOf, finishOf, reportOf}
@@ -147,9 +147,9 @@ pieces-joined file s h = (
 pub cuts-do-not-matter : D.CutsDoNotMatter
 cuts-do-not-matter file s t h g = reached-state file s h ∙ sym (reached-state file t g)
 
-counts-98 : (file : List ℕ) → length (countsOf file) ≡ rowCount
+counts-all : (file : List ℕ) → length (countsOf file) ≡ rowCount
 unfolding countsOf counts
-counts-98 file = counts-length (rows (standing (reverse file)))
+counts-all file = counts-length (rows (standing (reverse file)))
 
 pub block-counts-add-up : D.BlockCountsAddUp
 block-counts-add-up file s r h c l n e =
@@ -163,8 +163,11 @@ block-counts-add-up file s r h c l n e =
           accepted-closing file l n a line m k
           ∙ ap (blockCount (block (rowOf line)))
           (sym (ap (take rowCount) (p .counted file (inr (c .closed file h)) z)
-          ∙ take-at (countsOf file) (drop rowCount before) rowCount (counts-98 file)));
+          ∙ take-at (countsOf file) (drop rowCount before) rowCount (counts-all file)));
     }
+
+pub statements-true : D.StatementsTrue
+statements-true file s r h c l n e = accepted-statement file l n (sym (c .joined file h) ∙ e)
 
 -- "The order of lines", of an accepted file.
 pub first-lines : D.FirstLines
@@ -411,7 +414,7 @@ report-at-any-time file s before r after g l c =
     let e = given-ranged file s g in
     let p : r ≡ Report.Written (s .hot .lines) (s .hot .bytes) = c .exact ∙ unfold reportOf in rw (e, le-ltb _ _ l) in
     let z : reportSaid r .refusal ≡ 0 = ap (λ x. reportSaid x .refusal) p ∙ unfold reportSaid in refl in
-    (z, counts-98 file, c .counted file g z)
+    (z, counts-all file, c .counted file g z)
 
 pub one-result : D.OneResult
 one-result = (

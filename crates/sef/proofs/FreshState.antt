@@ -16,13 +16,14 @@ use Rattle.rules.proofs.CleanLaws.{clean-start}
 use Rattle.field.specs.Streaming.{fieldAfter}
 use Rattle.sef.specs.Calls.{fresh, openOf}
 use Rattle.line.proofs.HotOf.{says, lastSays}
+use Rattle.line.proofs.StatementLaws.{statedOfRow}
 use Rattle.sef.proofs.StateAfter.{openAt, checkedAfter, after-clean}
 
 fresh-open : fresh ≡ openAt [] .state
 unfolding fresh openOf says lastSays lines rows last since cut lineAtHand bars word rowAtHand rowOf rowOfWord
     field part fields listed rowTable kind kindsOf isOpening isClosing code bytes codeNumber textNumber
     fitted kindOf sheetOf sheets kindNumber fieldAfter countsOfRows tabulate linesOfRow stamps stamped occurrences occurred
-    totalsOfRows linesOfBlock
+    totalsOfRows linesOfBlock statedOfRow
 fresh-open = refl
 
 pub fresh-is : fresh ≡ checkedAfter [] .state

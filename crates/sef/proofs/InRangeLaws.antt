@@ -7,13 +7,14 @@ use native.Mathlib.Omega.{arith}
 use lib.Dec.{eqb}
 use borrow.Author.Tests.{eqb-true, eqb-false}
 use Rattle.layout.specs.Pick.{pick}
+use Rattle.layout.specs.Lists.{allBelow}
 use Rattle.layout.specs.Text.{bytes, codeNumber, textNumber}
 use Rattle.layout.specs.Rows.{rowTable, listed, code, block, placeOf, blockLetters}
 use Rattle.rules.specs.Totals.{sum, sumOfBlock}
 use Rattle.line.specs.Machine.{mostBars, positionOf}
 use Rattle.sef.specs.Calls.{stateOf, openOf, stoppedOf, judgedOne, runOf, fresh, keptOf, unchanged, checkOf, finalAnswerOf}
 use Rattle.sef.specs.Calls.{closedOf, finallyUnchanged, finishOf}
-use Rattle.sef.specs.Ranges.{allBelow, lineRanged, hotRanged, isRule, refusalRanged, tallyRanged, rangedOf, Held}
+use Rattle.sef.specs.Ranges.{lineRanged, hotRanged, isRule, refusalRanged, tallyRanged, rangedOf, Held}
 use Rattle.sef.specs.Ranges.{TallyFit}
 use Rattle.sef.specs.Promises.{AllBytes}
 use Rattle.line.specs.declared.hot.Hot.{Hot}
@@ -46,6 +47,7 @@ judged-tally h t d =
       eachBlock = f .eachBlock;
       stamps = λ k l. omega (arith, f .stamps k l);
       occurrences = λ k l. omega (arith, f .occurrences k l);
+      stated = f .stated;
       totals = f .totals;
       addUp = f .addUp;
     }

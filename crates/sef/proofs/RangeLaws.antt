@@ -1,57 +1,25 @@
--- The ranges: the loops that test arrays, and what the tests say, in both directions.
-use mathlib.Core.Path.{_≡_, refl}
-use mathlib.Core.Bool.{Bool, true, false, _&&_, _||_, or-true}
+-- The ranges: what their tests say, in both directions.
+use mathlib.Core.Path.{_≡_}
+use mathlib.Core.Bool.{Bool, true, _&&_, _||_, or-true}
 use mathlib.Core.List.{List}
-use Prim.Native.Nat.{ℕ, zero, suc, _+_, _-_, _<_, _≤_}
+use Prim.Native.Nat.{ℕ, suc, _+_, _<_, _≤_}
 use native.Mathlib.Omega.{arith}
-use native.Mathlib.Numerals.{sub-one}
-use native.Mathlib.Decide.{ℕ-discrete}
 use lib.Dec.{eqb, leb, ltb}
 use lib.ListN.{length, getD}
 use borrow.Author.Tests.{eq-eqb, ne-eqb, eqb-true, le-leb, lt-leb, leb-true, leb-false, lt-ltb, ltb-true}
 use Rattle.layout.specs.Rows.{rowCount, mostFields, blocks}
 use Rattle.layout.specs.Packed.{mostKind}
+use Rattle.layout.proofs.Below.{all-at, all-below}
 use Rattle.rules.specs.Rules.{byteLimit}
 use Rattle.rules.specs.Totals.{sum, blockCount}
 use Rattle.rules.proofs.TestLaws.{both, split, and-left, and-right, and-false}
 use Rattle.field.specs.Streaming.{cap}
-use Rattle.line.specs.Machine.{HotFit, mostBars, withoutData}
-use Rattle.sef.specs.Ranges.{allBelow, withinTo, totalsTo, lineRanged, hotRanged, isRule, positionRanged, refusalRanged}
+use Rattle.line.specs.Machine.{HotFit, mostBars, untrue, mostSays}
+use Rattle.sef.specs.Ranges.{withinTo, totalsTo, lineRanged, hotRanged, isRule, positionRanged, refusalRanged}
 use Rattle.sef.specs.Ranges.{tallyRanged, rangedOf, TallyFit, Held}
 use Rattle.line.specs.declared.hot.Hot.{Hot}
 use Rattle.sef.specs.declared.state.State.{State}
 use Rattle.sef.specs.declared.state.Tally.{Tally}
-
--- The loop over the numbers below a bound, from the last one down.
-module _ (test : ℕ → Bool) where
-  pub all-on : (i : ℕ) → 0 < i → test (i - 1) ≡ true → allBelow i test ≡ allBelow (i - 1) test
-  unfolding allBelow
-  all-on zero h t = absurd (omega arith)
-  all-on (suc j) h t = let e : suc j - 1 ≡ j = sub-one (suc j) in rw (e, rw e at t)
-
-  pub all-off : (i : ℕ) → 0 < i → test (i - 1) ≡ false → allBelow i test ≡ false
-  unfolding allBelow
-  all-off zero h t = absurd (omega arith)
-  all-off (suc j) h t = let e : suc j - 1 ≡ j = sub-one (suc j) in rw (rw e at t)
-
-  pub all-end : (i : ℕ) → i ≤ 0 → allBelow i test ≡ true
-  unfolding allBelow
-  all-end zero h = refl
-  all-end (suc j) h = absurd (omega arith)
-
-  all-at : (n : ℕ) → allBelow n test ≡ true → (k : ℕ) → k < n → test k ≡ true
-  unfolding allBelow
-  all-at zero e k h = absurd (omega arith)
-  all-at (suc n) e k h = go (ℕ-discrete k n) (all-at n (and-right (test n) (allBelow n test) e) k)
-    where
-      go : Dec (k ≡ n) → (k < n → test k ≡ true) → test k ≡ true
-      go (yes p) r = rw p (and-left (test n) (allBelow n test) e)
-      go (no p) r = r (omega arith)
-
-  all-below : (n : ℕ) → ((k : ℕ) → k < n → test k ≡ true) → allBelow n test ≡ true
-  unfolding allBelow
-  all-below zero h = refl
-  all-below (suc n) h = rw (h n (omega arith)) (all-below n (λ k l. h k (omega arith)))
 
 -- at each entry of an array
 module _ (m : ℕ) (xs : List ℕ) (n : ℕ) where
@@ -69,7 +37,7 @@ fit-of h e =
     let b = leb (h .lines) (h .bytes) in
     let c = leb (h .last) rowCount in
     let d = leb (h .since) (h .bytes) in
-    let s = leb (h .says) withoutData in
+    let s = leb (h .says) mostSays in
     let e₅ = and-left (a && b && c && d && s) (lineRanged h) e in
     let e₄ = and-left (a && b && c && d) s e₅ in
     let e₃ = and-left (a && b && c) d e₄ in
@@ -123,7 +91,7 @@ hot-ranged h f =
       le-leb (h .lines) (h .bytes) (f .lines),
       le-leb (h .last) rowCount (f .last),
       le-leb (h .since) (h .bytes) (f .since),
-      le-leb (h .says) withoutData (f .says),
+      le-leb (h .says) mostSays (f .says),
       le-leb (h .bars) mostBars (f .bars),
       le-leb (h .row) rowCount (f .row),
       coded-or h f,
@@ -149,6 +117,9 @@ module _ (t : Tally) (lines bytes : ℕ) where
   abbrev occurring : Bool
   occurring = withinTo bytes (t .occurrences) rowCount
 
+  abbrev stating : Bool
+  stating = withinTo untrue (t .stated) (suc rowCount)
+
   abbrev totalled : Bool
   totalled = totalsTo (t .counts) (t .totals) blocks
 
@@ -158,8 +129,9 @@ module _ (t : Tally) (lines bytes : ℕ) where
   tally-fit : tallyRanged t lines bytes ≡ true → TallyFit t lines bytes
   unfolding tallyRanged
   tally-fit e =
-      let e₅ = and-left (eachRow && eachBlock && stamped && occurring && totalled) addingUp e in
-      let e₄ = and-left (eachRow && eachBlock && stamped && occurring) totalled e₅ in
+      let e₆ = and-left (eachRow && eachBlock && stamped && occurring && stating && totalled) addingUp e in
+      let e₅ = and-left (eachRow && eachBlock && stamped && occurring && stating) totalled e₆ in
+      let e₄ = and-left (eachRow && eachBlock && stamped && occurring) stating e₅ in
       let e₃ = and-left (eachRow && eachBlock && stamped) occurring e₄ in
       let e₂ = and-left (eachRow && eachBlock) stamped e₃ in
       record {
@@ -167,10 +139,11 @@ module _ (t : Tally) (lines bytes : ℕ) where
         eachBlock = eqb-true _ _ (and-right eachRow eachBlock e₂);
         stamps = within-at bytes (t .stamps) rowCount (and-right (eachRow && eachBlock) stamped e₃);
         occurrences = within-at bytes (t .occurrences) rowCount (and-right (eachRow && eachBlock && stamped) occurring e₄);
+        stated = within-at untrue (t .stated) (suc rowCount) (and-right (eachRow && eachBlock && stamped && occurring) stating e₅);
         totals = λ x h.
             eqb-true _ _
-            (all-at _ blocks (and-right (eachRow && eachBlock && stamped && occurring) totalled e₅) x h);
-        addUp = eqb-true _ _ (and-right (eachRow && eachBlock && stamped && occurring && totalled) addingUp e);
+            (all-at _ blocks (and-right (eachRow && eachBlock && stamped && occurring && stating) totalled e₆) x h);
+        addUp = eqb-true _ _ (and-right (eachRow && eachBlock && stamped && occurring && stating && totalled) addingUp e);
       }
 
   tally-ranged : TallyFit t lines bytes → tallyRanged t lines bytes ≡ true
@@ -181,6 +154,7 @@ module _ (t : Tally) (lines bytes : ℕ) where
         eq-eqb (length (t .totals)) blocks (f .eachBlock),
         within-all bytes (t .stamps) rowCount (f .stamps),
         within-all bytes (t .occurrences) rowCount (f .occurrences),
+        within-all untrue (t .stated) (suc rowCount) (f .stated),
         all-below (λ x. eqb (blockCount x (t .counts)) (getD (t .totals) x 0)) blocks (λ x h. eq-eqb _ _ (f .totals x h)),
         eq-eqb (sum (t .totals)) lines (f .addUp),
       )
@@ -200,7 +174,14 @@ of-rule n e = rw e (or-true (eqb n 0))
 -- none of them is 17, 18 or 19
 pub not-of-call : {X : Type 0} (n : ℕ) → OfRule n → 17 ≤ n → n ≤ 19 → X
 not-of-call n e l m =
-    both e (rw (ne-eqb n 0 (λ z. omega arith), lt-leb n 16 (omega arith), ne-eqb n 24 (λ z. omega arith), and-false (leb 1 n)))
+    both e
+    (rw (
+      ne-eqb n 0 (λ z. omega arith),
+      lt-leb n 16 (omega arith),
+      ne-eqb n 23 (λ z. omega arith),
+      ne-eqb n 24 (λ z. omega arith),
+      and-false (leb 1 n),
+    ))
 
 pub rule-some : (rule : ℕ) → isRule rule ≡ true → rule ≡ 0 → ⊥
 rule-some rule e z = both e (rw z)

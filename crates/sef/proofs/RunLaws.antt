@@ -8,10 +8,10 @@ use native.Mathlib.Numerals.{add-one}
 use lib.ListN.{length, getD, drop}
 use lib.Seq.{drop-cons, drop-length}
 use Rattle.rules.specs.Rules.{byteLimit}
-use Rattle.line.specs.Machine.{HotFit, mostBars, stepOf}
-use Rattle.sef.specs.Calls.{countsWith, stampsWith, occurrencesWith, totalsWith, tallyOf, tallyWith, openOf, stoppedOf}
-use Rattle.sef.specs.Calls.{onStep, runOf}
-use Rattle.sef.specs.Ranges.{isRule, Below, Held}
+use Rattle.line.specs.Machine.{Below, HotFit, mostBars}
+use Rattle.sef.specs.Calls.{countsWith, stampsWith, occurrencesWith, totalsWith, statedWith, tallyOf, tallyWith, openOf}
+use Rattle.sef.specs.Calls.{stoppedOf, onStep, stepWith, runOf}
+use Rattle.sef.specs.Ranges.{isRule, Held}
 use Rattle.sef.specs.Promises.{AllBytes}
 use Rattle.line.specs.declared.hot.Hot.{Hot}
 use Rattle.line.specs.declared.step.Step.{Step}
@@ -30,17 +30,17 @@ module _ (h n : Hot) (t : Tally) (b : ℕ) (d : Held h t) where
       subst (λ m. HotFit m × (m .bytes ≡ h .bytes + 1) × (h .bytes < byteLimit)) q (f, e, l)
   led s (stops is named) p = absurd (let z : _≡_ {A = ℕ} 0 1 = cc in omega arith)
 
-  held-next : b < 256 → stepOf h (t .stamps) (t .occurrences) b ≡ Next n → Held n (tallyWith h (n .lines) b t)
+  held-next : b < 256 → stepWith h t b ≡ Next n → Held n (tallyWith h (n .lines) b t)
   held-next byte e =
-      let s = led (stepOf h (t .stamps) (t .occurrences) b) (step-leads h (d .fit) (t .stamps) (t .occurrences) b byte) e in
+      let s = led (stepWith h t b) (step-leads h (d .fit) (t .stamps) (t .occurrences) _ b byte) e in
       record {
         fit = s .0;
         withinLimit = omega (arith, s .1, s .2);
         tally =
             rw (s .1)
-            (tally-next h (n .lines) b t (h .lines) (h .bytes) (d .tally) (omega (arith, s .0 .lines, s .1))
-            (λ p. lf-lines h (t .stamps) (t .occurrences) b n e (d .fit) p)
-            (λ p. other-lines h (t .stamps) (t .occurrences) b n e p));
+            (tally-next h (n .lines) b t (h .lines) (h .bytes) (d .tally) (omega (arith, s .0 .lines, s .1)) (d .fit .says)
+            (λ p. lf-lines h (t .stamps) (t .occurrences) _ b n e (d .fit) p)
+            (λ p. other-lines h (t .stamps) (t .occurrences) _ b n e p));
       }
 
 -- The loop's invariant: the run from the start is the run from here over what is left of the piece.
@@ -50,39 +50,43 @@ pub record Going (p : List ℕ) (h₀ : Hot) (t₀ : Tally) (h : Hot) (t : Tally
   pub held : Held h t
 
 module _ (h : Hot) (t : Tally) (p : List ℕ) (i : ℕ) where
-  run-next : i < length p → (n : Hot) → stepOf h (t .stamps) (t .occurrences) (getD p i 0) ≡ Next n
+  run-next : i < length p → (n : Hot) → stepWith h t (getD p i 0) ≡ Next n
       → runOf h t (drop i p) ≡ runOf n (tallyWith h (n .lines) (getD p i 0) t) (drop (i + 1) p)
   unfolding runOf
   run-next l n e = rw (drop-cons p i 0 l, e, add-one)
 
   -- the step s refused
-  pub run-stop : i < length p → (s : Step) (rule field : ℕ) → s ≡ stepOf h (t .stamps) (t .occurrences) (getD p i 0)
+  pub run-stop : i < length p → (s : Step) (rule field : ℕ) → s ≡ stepWith h t (getD p i 0)
       → s ≡ Broken rule field → runOf h t (drop i p) ≡ onStep s (λ n. openOf h t) (stoppedOf h t)
   unfolding runOf
   run-stop l s rule field e q =
-      let e′ : stepOf h (t .stamps) (t .occurrences) (getD p i 0) ≡ Broken rule field = sym e ∙ q in
+      let e′ : stepWith h t (getD p i 0) ≡ Broken rule field = sym e ∙ q in
       rw (drop-cons p i 0 l, e′, q)
 
   pub run-end : length p ≤ i → i ≤ length p → runOf h t (drop i p) ≡ openOf h t
   unfolding runOf
   run-end l g = let e : i ≡ length p = omega arith in rw (e, drop-length)
 
-pub going-next : {p : List ℕ} {h₀ : Hot} {t₀ : Tally} {h : Hot} {cs ss os bs : List ℕ} {i : ℕ}
-    → Going p h₀ t₀ h (tallyOf cs ss os bs) i → i < length p → getD p i 0 < 256 → (n : Hot) → stepOf h ss os (getD p i 0) ≡ Next n
-    → (cs′ ss′ os′ bs′ : List ℕ) → cs′ ≡ countsWith h (getD p i 0) cs → ss′ ≡ stampsWith h (n .lines) (getD p i 0) ss
-    → os′ ≡ occurrencesWith h (getD p i 0) ss os → bs′ ≡ totalsWith h (getD p i 0) bs
-    → Going p h₀ t₀ n (tallyOf cs′ ss′ os′ bs′) (i + 1)
-going-next {p} {h₀} {t₀} {h} {cs} {ss} {os} {bs} {i} g l byte n e cs′ ss′ os′ bs′ ec es eo eb =
+pub going-next : {p : List ℕ} {h₀ : Hot} {t₀ : Tally} {h : Hot} {cs ss os bs ds : List ℕ} {i : ℕ}
+    → Going p h₀ t₀ h (tallyOf cs ss os bs ds) i → i < length p → getD p i 0 < 256 → (n : Hot)
+    → stepWith h (tallyOf cs ss os bs ds) (getD p i 0) ≡ Next n
+    → (cs′ ss′ os′ bs′ ds′ : List ℕ) → cs′ ≡ countsWith h (getD p i 0) cs → ss′ ≡ stampsWith h (n .lines) (getD p i 0) ss
+    → os′ ≡ occurrencesWith h (getD p i 0) ss os → bs′ ≡ totalsWith h (getD p i 0) bs → ds′ ≡ statedWith h (getD p i 0) ds
+    → Going p h₀ t₀ n (tallyOf cs′ ss′ os′ bs′ ds′) (i + 1)
+going-next {p} {h₀} {t₀} {h} {cs} {ss} {os} {bs} {ds} {i} g l byte n e cs′ ss′ os′ bs′ ds′ ec es eo eb ed =
     record {
-      runs = g .runs ∙ run-next h (tallyOf cs ss os bs) p i l n e ∙ rw (ec, es, eo, eb);
+      runs = g .runs ∙ run-next h (tallyOf cs ss os bs ds) p i l n e ∙ rw (ec, es, eo, eb, ed);
       within = omega arith;
-      held = rw (ec, es, eo, eb) (held-next h n (tallyOf cs ss os bs) (getD p i 0) (g .held) byte e);
+      held = rw (ec, es, eo, eb, ed) (held-next h n (tallyOf cs ss os bs ds) (getD p i 0) (g .held) byte e);
     }
 
 -- what is kept of each row and of each block is small
 module _ (h : Hot) (t : Tally) (d : Held h t) where
   pub held-counts : Below (h .bytes) (t .counts)
   held-counts = count-le t (h .lines) (h .bytes) (d .tally) (d .fit .lines)
+
+  pub held-small : Below (byteLimit + 1) (t .counts)
+  held-small k l = omega (arith, held-counts k l, d .fit .bytes)
 
   pub held-totals : Below (h .bytes) (t .totals)
   held-totals = total-le t (h .lines) (h .bytes) (d .tally) (d .fit .lines)
@@ -97,11 +101,11 @@ pub run-comes : (piece : List ℕ) → AllBytes piece → (h : Hot) (t : Tally) 
 unfolding runOf
 run-comes [] all h t d = opens h t d
 run-comes (b ∷ piece) all h t d =
-    go (stepOf h (t .stamps) (t .occurrences) b) refl (step-leads h (d .fit) (t .stamps) (t .occurrences) b (all 0))
+    go (stepWith h t b) refl (step-leads h (d .fit) (t .stamps) (t .occurrences) _ b (all 0))
     (λ n e. run-comes piece (λ k. all (suc k)) n (tallyWith h (n .lines) b t) (held-next h n t b d (all 0) e))
   where
-    go : (s : Step) → stepOf h (t .stamps) (t .occurrences) b ≡ s → Leads h s
-        → ((n : Hot) → stepOf h (t .stamps) (t .occurrences) b ≡ Next n → Comes (runOf n (tallyWith h (n .lines) b t) piece))
+    go : (s : Step) → stepWith h t b ≡ s → Leads h s
+        → ((n : Hot) → stepWith h t b ≡ Next n → Comes (runOf n (tallyWith h (n .lines) b t) piece))
         → Comes (onStep s (λ n. runOf n (tallyWith h (n .lines) b t) piece) (stoppedOf h t))
     go (Next n) e l ih = ih n e
     go (Broken r f) e (stops is named) ih = stops-by h t r f d is named

@@ -28,16 +28,16 @@ onward : (P : Hot → Type 0) (s : Step) (n : Hot) → Onward P s → s ≡ Next
 onward P s n (on {n = k} p) e = let q : k ≡ n = cc in subst P q p
 onward P s n broken e = absurd (let z : _≡_ {A = ℕ} 0 1 = cc in omega arith)
 
-module _ (h : Hot) (ss os : List ℕ) where
+module _ (h : Hot) (ss os : List ℕ) (holds : Bool) where
   -- every byte but LF
   abbrev Same : Hot → Type 0
   Same n = n .lines ≡ h .lines
 
-  in-same : (b : ℕ) → Onward Same (inFieldOf h ss os b)
+  in-same : (b : ℕ) → Onward Same (inFieldOf h ss os holds b)
   unfolding inFieldOf barOf codeBarOf fieldBarOf controlOf
   in-same b = search (pick-onward, on, broken) depth 12
 
-  other-onward : (b : ℕ) → eqb b LF ≡ false → Onward Same (stepOf h ss os b)
+  other-onward : (b : ℕ) → eqb b LF ≡ false → Onward Same (stepOf h ss os holds b)
   unfolding stepOf startOf pastOf
   other-onward b e = rw e (search (pick-onward, on, broken, in-same) depth 12)
 
@@ -45,23 +45,23 @@ module _ (h : Hot) (ss os : List ℕ) where
   abbrev Ends : Hot → Type 0
   Ends n = (n .lines ≡ h .lines + 1) × (h .row < rowCount)
 
-  lf-onward : HotFit h → Onward Ends (stepOf h ss os LF)
+  lf-onward : HotFit h → Onward Ends (stepOf h ss os holds LF)
   unfolding stepOf startOf pastOf inFieldOf controlOf
   lf-onward f =
       pick-onward Ends (leb byteLimit (h .bytes)) _ _ broken
       (go (eqb (h .bars) 0) refl (ltb (h .fields) (h .bars)) refl)
     where
       go : (z : Bool) → eqb (h .bars) 0 ≡ z → (t : Bool) → ltb (h .fields) (h .bars) ≡ t
-          → Onward Ends (pick z (startOf h LF) (pick t (pastOf h LF) (inFieldOf h ss os LF)))
+          → Onward Ends (pick z (startOf h LF) (pick t (pastOf h LF) (inFieldOf h ss os holds LF)))
       go true e t d = pick-onward Ends (eqb (h .last) row9999) _ _ broken broken
       go false e true d =
           let past = ltb-true (h .fields) (h .bars) d in
           pick-onward Ends (eqb (h .field .length) 0) _ _ broken (on (refl, f .coded (omega (arith, f .someField))))
       go false e false d = pick-onward Ends (eqb (h .field .length) 0 && isEndByte LF) _ _ broken broken
 
-  module _ (b : ℕ) (n : Hot) (e : stepOf h ss os b ≡ Next n) where
+  module _ (b : ℕ) (n : Hot) (e : stepOf h ss os holds b ≡ Next n) where
     pub other-lines : eqb b LF ≡ false → n .lines ≡ h .lines
-    other-lines t = onward Same (stepOf h ss os b) n (other-onward b t) e
+    other-lines t = onward Same (stepOf h ss os holds b) n (other-onward b t) e
 
     pub lf-lines : HotFit h → b ≡ LF → (n .lines ≡ h .lines + 1) × (h .row < rowCount)
-    lf-lines f p = onward Ends (stepOf h ss os b) n (rw p (lf-onward f)) e
+    lf-lines f p = onward Ends (stepOf h ss os holds b) n (rw p (lf-onward f)) e

@@ -1,9 +1,10 @@
 -- What is kept for each row and each block stays within the ranges: a line sets the entries at its row and at its block, and other
 -- bytes set none.
 use mathlib.Core.Path.{_≡_, _∙_, refl, sym}
-use mathlib.Core.Bool.{Bool, true, false}
+use mathlib.Core.Bool.{Bool, true, false, _&&_}
 use mathlib.Core.List.{List, [], _∷_}
-use Prim.Native.Nat.{ℕ, zero, suc, _+_, _≤_, _<_}
+use Prim.Native.Nat.{ℕ, zero, suc, _+_, _*_, _/_, _%_, _≤_, _<_}
+use native.Mathlib.Nat.{div-lt-iff-lt-mul}
 use native.Mathlib.Omega.{arith}
 use native.Mathlib.Numerals.{add-one}
 use native.Mathlib.Decide.{ℕ-discrete}
@@ -12,29 +13,23 @@ use lib.ListN.{length, getD, set, length-set}
 use lib.Seq.{getD-set-same, getD-set-other}
 use borrow.Author.Tests.{lt-ltb, ltb-true, eqb-true, eq-eqb, ne-eqb}
 use Rattle.layout.specs.Pick.{pick}
-use Rattle.layout.specs.Rows.{rowCount, parent, block, blocks}
+use Rattle.layout.specs.Rows.{rowCount, row9900, parent, block, blocks}
 use Rattle.layout.proofs.StartLaws.{block-below}
 use Rattle.rules.specs.Bytes.{LF}
 use Rattle.rules.specs.Totals.{blockCount}
 use Rattle.rules.proofs.TestLaws.{split, pick-le}
 use Rattle.rules.proofs.CountLaws.{sum-set, sum-most, block-set, block-most}
-use Rattle.line.specs.Machine.{entryOf, usedOf}
-use Rattle.sef.specs.Calls.{setOf, countsWith, stampsWith, occurrencesWith, raisedOf, totalsWith, tallyWith}
-use Rattle.sef.specs.Ranges.{Below, TallyFit}
+use Rattle.line.specs.Machine.{Below, entryOf, usedOf, numberUnit, untrue, mostSays, joinedOf}
+use Rattle.line.proofs.StatementLaws.{entry-most}
+use Rattle.sef.specs.Calls.{setOf, countsWith, stampsWith, occurrencesWith, raisedOf, totalsWith, statedOf, statedWith}
+use Rattle.sef.specs.Calls.{tallyWith}
+use Rattle.sef.specs.Ranges.{TallyFit}
 use Rattle.line.specs.declared.hot.Hot.{Hot}
 use Rattle.sef.specs.declared.state.Tally.{Tally}
 
-pub entry-le : (m r : ℕ) (xs : List ℕ) → Below m xs → entryOf xs r ≤ m
-unfolding entryOf
-entry-le m r xs b = go (ltb r rowCount) refl
-  where
-    go : (t : Bool) → ltb r rowCount ≡ t → pick t (getD xs r 0) 0 ≤ m
-    go true e = b r (ltb-true _ _ e)
-    go false e = omega arith
-
 pub used-le : (m r : ℕ) (ss os : List ℕ) → Below m os → usedOf ss os r ≤ m
 unfolding usedOf
-used-le m r ss os b = pick-le (ltb (entryOf ss (parent r)) (entryOf ss r)) (entryOf os r) 0 m (entry-le m r os b) (omega arith)
+used-le m r ss os b = pick-le (ltb (entryOf ss (parent r)) (entryOf ss r)) (entryOf os r) 0 m (entry-most m os b r) (omega arith)
 
 set-le : (xs : List ℕ) (r v m k : ℕ) → k ≡ r → getD xs k 0 ≤ m → v ≤ m → getD (set xs r v) k 0 ≤ m
 set-le [] r v m k e p le = p
@@ -66,6 +61,41 @@ below-next m r v t xs b le = go t
     go true = below-set (m + 1) r v xs more le
     go false = more
 
+-- What is stated stays a number or one that can't be true.
+joined-most : (old new : ℕ) → old ≤ untrue → new ≤ untrue → joinedOf old new ≤ untrue
+unfolding joinedOf
+joined-most old new p q =
+    pick-le (eqb old 0) new (pick (eqb old new) old untrue) untrue q (pick-le (eqb old new) old untrue untrue p (omega arith))
+
+module _ (h : Hot) (b : ℕ) (stated : List ℕ) (said : h .says ≤ mostSays) where
+  new-most : h .says / numberUnit ≤ untrue
+  new-most =
+      let below : h .says < (untrue + 1) * numberUnit = omega arith in
+      let less : h .says / numberUnit < untrue + 1 =
+      div-lt-iff-lt-mul {k = numberUnit} {x = h .says} {y = untrue + 1} (omega arith) .1 below
+      in
+      omega arith
+
+  pub stated-most : ((k : ℕ) → k < suc rowCount → getD stated k 0 ≤ untrue)
+      → (k : ℕ) → k < suc rowCount → getD (statedWith h b stated) k 0 ≤ untrue
+  unfolding statedWith statedOf
+  stated-most most k l = go (eqb b LF && eqb (h .row) row9900) (ltb row (suc rowCount)) refl
+    where
+      row : ℕ
+      row = h .says % numberUnit
+
+      new : ℕ
+      new = joinedOf (getD stated row 0) (h .says / numberUnit)
+
+      at : row < suc rowCount → Dec (k ≡ row) → getD (set stated row new) k 0 ≤ untrue
+      at r (yes p) = set-le stated row new untrue k p (most k l) (joined-most _ _ (most row r) new-most)
+      at r (no p) = rw (getD-set-other stated row k new 0 p) (most k l)
+
+      go : (t u : Bool) → ltb row (suc rowCount) ≡ u → getD (pick t (pick u (set stated row new) stated) stated) k 0 ≤ untrue
+      go true true e = at (ltb-true _ _ e) (ℕ-discrete k row)
+      go true false e = most k l
+      go false u e = most k l
+
 -- No count and no total is above the lines ended, and so above the bytes.
 module _ (t : Tally) (lines bytes : ℕ) (f : TallyFit t lines bytes) (le : lines ≤ bytes) where
   pub total-le : Below bytes (t .totals)
@@ -96,7 +126,8 @@ module _ (counts totals : List ℕ) (r : ℕ) (known : r < rowCount) (rows : len
           rw (eq-eqb (block r) x p, ← p, getD-set-same totals (block r) _ 0 (omega arith)) (omega arith)
       go (no p) = rw (ne-eqb (block r) x p, getD-set-other totals (block r) x _ 0 (λ q. p (sym q))) (omega arith)
 
-module _ (h : Hot) (n b : ℕ) (t : Tally) (lines bytes : ℕ) (f : TallyFit t lines bytes) (le : n ≤ bytes + 1) where
+module _ (h : Hot) (n b : ℕ) (t : Tally) (lines bytes : ℕ) (f : TallyFit t lines bytes) (le : n ≤ bytes + 1)
+    (said : h .says ≤ mostSays) where
   stamps-next : Below (bytes + 1) (stampsWith h n b (t .stamps))
   unfolding stampsWith
   stamps-next = below-next bytes (h .row) n (eqb b LF) (t .stamps) (f .stamps) le
@@ -125,6 +156,7 @@ module _ (h : Hot) (n b : ℕ) (t : Tally) (lines bytes : ℕ) (f : TallyFit t l
           eachBlock = rw (totals-ended, length-set) (f .eachBlock);
           stamps = stamps-next;
           occurrences = occurrences-next;
+          stated = stated-most h b (t .stated) said (f .stated);
           totals = λ x l. rw (counts-ended, totals-ended)
               (total-next (t .counts) (t .totals) (h .row) known (f .eachRow) (f .eachBlock) x (f .totals x l));
           addUp =
@@ -150,6 +182,7 @@ module _ (h : Hot) (n b : ℕ) (t : Tally) (lines bytes : ℕ) (f : TallyFit t l
           eachBlock = rw totals-stay (f .eachBlock);
           stamps = stamps-next;
           occurrences = occurrences-next;
+          stated = stated-most h b (t .stated) said (f .stated);
           totals = λ x l. rw (counts-stay, totals-stay) (f .totals x l);
           addUp = rw totals-stay (f .addUp ∙ sym same);
         }

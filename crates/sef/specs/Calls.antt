@@ -1,14 +1,14 @@
 -- What each call gives back, at every state: the exact answer, the next state, and what a lent buffer then holds.
-use mathlib.Core.Bool.{Bool, true, false}
+use mathlib.Core.Bool.{Bool, true, false, _&&_}
 use mathlib.Core.List.{List, [], _∷_, _++_}
-use Prim.Native.Nat.{ℕ, _+_}
+use Prim.Native.Nat.{ℕ, suc, _+_, _/_, _%_}
 use lib.Dec.{eqb, ltb}
 use lib.ListN.{length, getD, set, drop, replicate}
 use Rattle.layout.specs.Pick.{pick}
-use Rattle.layout.specs.Rows.{rowCount, none, row9999, block, blocks}
+use Rattle.layout.specs.Rows.{rowCount, none, row9900, row9999, block, blocks}
 use Rattle.rules.specs.Bytes.{LF}
 use Rattle.field.specs.Streaming.{emptyField}
-use Rattle.line.specs.Machine.{codeKind, codeOnly, judgedWith, entryOf, usedOf, stepOf, positionOf}
+use Rattle.line.specs.Machine.{codeKind, codeOnly, numberUnit, judgedWith, entryOf, usedOf, joinedOf, allHoldOf, stepOf, positionOf}
 use Rattle.line.specs.declared.hot.Hot.{Hot}
 use Rattle.line.specs.declared.step.Step.{Step}
 use Rattle.line.specs.declared.step.Step.the-variants.{Next, Broken}
@@ -47,14 +47,23 @@ raisedOf totals x = pick (ltb x blocks) (set totals x (getD totals x 0 + 1)) tot
 unfoldable pub totalsWith : Hot → ℕ → List ℕ → List ℕ
 totalsWith h b totals = pick (eqb b LF) (raisedOf totals (block (h .row))) totals
 
-abbrev pub tallyOf : List ℕ → List ℕ → List ℕ → List ℕ → Tally
-tallyOf counts stamps occurrences totals =
-    record { counts = counts; stamps = stamps; occurrences = occurrences; totals = totals }
+-- What the 9900 lines state of each row, and of no row: what this line says of one is joined to what was stated of it.
+unfoldable pub statedOf : List ℕ → ℕ → List ℕ
+statedOf stated says =
+    let r = says % numberUnit in
+    pick (ltb r (suc rowCount)) (set stated r (joinedOf (getD stated r 0) (says / numberUnit))) stated
+
+unfoldable pub statedWith : Hot → ℕ → List ℕ → List ℕ
+statedWith h b stated = pick (eqb b LF && eqb (h .row) row9900) (statedOf stated (h .says)) stated
+
+abbrev pub tallyOf : List ℕ → List ℕ → List ℕ → List ℕ → List ℕ → Tally
+tallyOf counts stamps occurrences totals stated =
+    record { counts = counts; stamps = stamps; occurrences = occurrences; totals = totals; stated = stated }
 
 abbrev pub tallyWith : Hot → ℕ → ℕ → Tally → Tally
 tallyWith h n b t =
     tallyOf (countsWith h b (t .counts)) (stampsWith h n b (t .stamps)) (occurrencesWith h b (t .stamps) (t .occurrences))
-    (totalsWith h b (t .totals))
+    (totalsWith h b (t .totals)) (statedWith h b (t .stated))
 
 -- A piece, byte by byte.
 abbrev pub stateOf : Hot → ℕ → ℕ → ℕ → Bool → Tally → State
@@ -80,10 +89,14 @@ abbrev pub onStep : {A : Type 0} → Step → (Hot → A) → (ℕ → ℕ → A
 onStep (Next n) go stop = go n
 onStep (Broken r f) go stop = stop r f
 
+-- a step, at what is kept
+abbrev pub stepWith : Hot → Tally → ℕ → Step
+stepWith h t b = stepOf h (t .stamps) (t .occurrences) (allHoldOf (t .counts) (t .stated)) b
+
 unfoldable pub runOf : Hot → Tally → List ℕ → Checked
 runOf h t [] = openOf h t
 runOf h t (b ∷ rest) =
-    onStep (stepOf h (t .stamps) (t .occurrences) b) (λ n. runOf n (tallyWith h (n .lines) b t) rest) (stoppedOf h t)
+    onStep (stepWith h t b) (λ n. runOf n (tallyWith h (n .lines) b t) rest) (stoppedOf h t)
 
 -- The calls.
 unfoldable pub fresh : State
@@ -105,7 +118,7 @@ fresh =
     0
     0
     false
-    (tallyOf (replicate rowCount 0) (replicate rowCount 0) (replicate rowCount 0) (replicate blocks 0))
+    (tallyOf (replicate rowCount 0) (replicate rowCount 0) (replicate rowCount 0) (replicate blocks 0) (replicate (suc rowCount) 0))
 
 -- the refusal that a state keeps
 unfoldable pub keptOf : State → Numbers

@@ -8,8 +8,9 @@ use mathlib.Core.List.{List, [], _∷_, _++_, reverse}
 use mathlib.Core.Logic.{_⊎_}
 use Prim.Native.Nat.{ℕ, _+_, _≤_, _<_}
 use lib.ListN.{length, take, drop}
-use Rattle.layout.specs.Rows.{rowCount, block, isClosing, row0000, row0001, row9999}
-use Rattle.rules.specs.Bytes.{rowOf}
+use Rattle.layout.specs.Rows.{rowCount, block, isClosing, row0000, row0001, row9900, row9999}
+use Rattle.rules.specs.Bytes.{rowOf, rows}
+use Rattle.rules.specs.Statements.{isTrue}
 use Rattle.rules.specs.Verdict.{Verdict, stillOpen, refused, accepted, verdictOf, finalOf, countsOf}
 use Rattle.rules.specs.Follows.{NoneBroken, Follows, FirstBroken, CutShort}
 use Rattle.rules.specs.Totals.{closingsState, statedBy, linesOf, lastLine, rowsOf, blockCount, IsAmong, IsThere}
@@ -30,7 +31,7 @@ use Rattle.sef.specs.declared.answers.ReportAnswer.the-variants as Repor
 -- The tender.
 
 -- 1. "Every file gets an answer, also an empty or damaged one."
--- Each list of bytes can be handed over, and a finish then says accepted, or refused by a rule: 1 to 16, or 24.
+-- Each list of bytes can be handed over, and a finish then says accepted, or refused by a rule: 1 to 16, 23 or 24.
 pub data Answered : Verdict → Type 0 where
   isAccepted : {l n : ℕ} → Answered (accepted l n)
   isRefused : {number line field position l n : ℕ} → isRule number ≡ true → Answered (refused number line field position l n)
@@ -42,7 +43,7 @@ EveryFileAnswered =
     → Answered (finallySaid (r .answer)))
 
 -- "A refusal has one number of a fixed table, with line and field."
--- At every state each call's answer is in the table: nothing refused; a rule, 1 to 16 or 24, with the line, lines ended plus 1,
+-- At every state each call's answer is in the table: nothing refused; a rule, 1 to 16, 23 or 24, with the line, lines ended plus 1,
 -- a field and a position (which one, EveryAnswerPositioned says in words); or 17 to 19 alone.
 pub data InTable : Verdict → Type 0 where
   isOpen : (lines bytes : ℕ) → InTable (stillOpen lines bytes)
@@ -123,6 +124,13 @@ pub record AddsUp (file : List ℕ) (lines : ℕ) (s : State) : Type 0 where
 
 abbrev pub BlockCountsAddUp : Type 0
 BlockCountsAddUp = OfAccepted AddsUp
+
+-- 02, request f: "Where a block 9 line states how often a code occurs, that must be true of the whole file".
+-- Each 9900 line of an accepted file states what is true of the rows of all its lines, 9999 included.
+abbrev pub StatementsTrue : Type 0
+StatementsTrue =
+    OfAccepted (λ file l s. (line : List ℕ) → IsAmong line (linesOf file) → rowOf line ≡ row9900
+    → isTrue (rows (reverse file)) line ≡ true)
 
 -- Document 01, "The order of lines", of an accepted file.
 
@@ -229,7 +237,7 @@ EveryAnswerPositioned =
 abbrev pub EmptyPiece : Type 0
 EmptyPiece = (s : State) (r : Checked) → Checks s [] r → r .state ≡ s
 
--- "The report may be asked at any time, also after refusal or finish: it writes 98 counts in row order, of lines ended so
+-- "The report may be asked at any time, also after refusal or finish: it writes .. counts in row order, of lines ended so
 -- far, and no further element."
 abbrev pub ReportAtAnyTime : Type 0
 ReportAtAnyTime =

@@ -1,25 +1,21 @@
 -- Every stored number within its range (docs/STATE.md): what refusal 19 asks.
 use mathlib.Core.Path.{_≡_}
-use mathlib.Core.Bool.{Bool, true, _&&_, _||_}
+use mathlib.Core.Bool.{Bool, _&&_, _||_}
 use mathlib.Core.List.{List}
-use Prim.Native.Nat.{ℕ, zero, suc, _+_, _≤_, _<_}
+use Prim.Native.Nat.{ℕ, suc, _+_, _≤_, _<_}
 use lib.Dec.{eqb, leb, ltb}
 use lib.ListN.{length, getD}
 use Rattle.layout.specs.Pick.{pick}
+use Rattle.layout.specs.Lists.{allBelow}
 use Rattle.layout.specs.Rows.{rowCount, mostFields, blocks}
 use Rattle.layout.specs.Packed.{mostKind}
 use Rattle.rules.specs.Rules.{byteLimit}
 use Rattle.rules.specs.Totals.{sum, blockCount}
 use Rattle.field.specs.Streaming.{cap}
-use Rattle.line.specs.Machine.{HotFit, mostBars, withoutData}
+use Rattle.line.specs.Machine.{Below, HotFit, mostBars, untrue, mostSays}
 use Rattle.line.specs.declared.hot.Hot.{Hot}
 use Rattle.sef.specs.declared.state.State.{State}
 use Rattle.sef.specs.declared.state.Tally.{Tally}
-
--- each number below n passes the test
-unfoldable pub allBelow : ℕ → (ℕ → Bool) → Bool
-allBelow zero test = true
-allBelow (suc k) test = test k && allBelow k test
 
 -- the first n entries are at most m
 abbrev pub withinTo : ℕ → List ℕ → ℕ → Bool
@@ -40,11 +36,11 @@ lineRanged h =
 unfoldable pub hotRanged : Hot → Bool
 hotRanged h =
     leb (h .bytes) (byteLimit + 1) && leb (h .lines) (h .bytes) && leb (h .last) rowCount && leb (h .since) (h .bytes)
-    && leb (h .says) withoutData && lineRanged h
+    && leb (h .says) mostSays && lineRanged h
 
--- the numbers of the rules that the bytes or their end can break: 01's 1 to 16, and 02's 24
+-- the numbers of the rules that the bytes or their end can break: 01's 1 to 16, and 02's 23 and 24
 abbrev pub isRule : ℕ → Bool
-isRule n = leb 1 n && leb n 16 || eqb n 24
+isRule n = leb 1 n && leb n 16 || eqb n 23 || eqb n 24
 
 -- 02, request e: "a position, 0 for all but 2 and 10", of a byte that has been judged
 unfoldable pub positionRanged : ℕ → ℕ → ℕ → Bool
@@ -57,12 +53,14 @@ refusalRanged rule field position bytes =
     pick (eqb rule 0) (eqb field 0 && eqb position 0 && leb bytes byteLimit)
     (isRule rule && leb field mostBars && positionRanged rule position bytes)
 
--- what is kept for each row and each block: a count for each row and a total for each block, as the arrays' types say; "and totals
--- whose sum differs from a stored number of lines ended". (So no count or total is above the lines ended.)
+-- what is kept for each row and each block: a count for each row and a total for each block, as the arrays' types say; what is stated
+-- of each row and of no row; "and totals whose sum differs from a stored number of lines ended". (So no count or total is above the
+-- lines ended.)
 unfoldable pub tallyRanged : Tally → ℕ → ℕ → Bool
 tallyRanged t lines bytes =
     eqb (length (t .counts)) rowCount && eqb (length (t .totals)) blocks
     && withinTo bytes (t .stamps) rowCount && withinTo bytes (t .occurrences) rowCount
+    && withinTo untrue (t .stated) (suc rowCount)
     && totalsTo (t .counts) (t .totals) blocks && eqb (sum (t .totals)) lines
 
 unfoldable pub rangedOf : State → Bool
@@ -71,14 +69,12 @@ rangedOf s =
     && tallyRanged (s .tally) (s .hot .lines) (s .hot .bytes)
 
 -- what the loop over a piece keeps
-abbrev pub Below : ℕ → List ℕ → Type 0
-Below m xs = (k : ℕ) → k < rowCount → getD xs k 0 ≤ m
-
 pub record TallyFit (t : Tally) (lines bytes : ℕ) : Type 0 where
   pub eachRow : length (t .counts) ≡ rowCount
   pub eachBlock : length (t .totals) ≡ blocks
   pub stamps : Below bytes (t .stamps)
   pub occurrences : Below bytes (t .occurrences)
+  pub stated : (k : ℕ) → k < suc rowCount → getD (t .stated) k 0 ≤ untrue
   pub totals : (x : ℕ) → x < blocks → blockCount x (t .counts) ≡ getD (t .totals) x 0
   pub addUp : sum (t .totals) ≡ lines
 

@@ -16,6 +16,7 @@ use crate::run::run;
 use crate::state::State;
 use crate::state::Tally;
 use layout::blocks::BLOCKS;
+use layout::rows::ENTRIES;
 use layout::rows::ROWS;
 use line::hot::CODE_KIND;
 use line::hot::CODE_ONLY;
@@ -51,6 +52,7 @@ pub fn start() -> State
             stamps: [0; ROWS],
             occurrences: [0; ROWS],
             totals: [0; BLOCKS],
+            stated: [0; ENTRIES],
         },
     }
 }

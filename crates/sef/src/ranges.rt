@@ -16,9 +16,11 @@ use layout::kinds::KIND_MOST;
 use layout::rows::FIELDS_MOST;
 use layout::rows::ROWS;
 use line::hot::Hot;
-use line::order::WITHOUT_DATA;
+use line::statements::NUMBER_UNIT;
+use line::statements::UNTRUE;
 use line::step::CONTROL_BYTE;
 use line::step::TOO_LONG;
+use line::step::UNTRUE_STATEMENT;
 use rules::BYTE_LIMIT;
 
 // The byte that breaks rule 16 is judged too.
@@ -27,11 +29,14 @@ const BYTES_MOST: u64 = BYTE_LIMIT + 1;
 // A line has a bar before each field, and the last one.
 const BARS_MOST: u64 = FIELDS_MOST + 1;
 
+// A 9900 line says most.
+const SAYS_MOST: u64 = NUMBER_UNIT * (UNTRUE + 1) - 1;
+
 // Every entry is at most m.
-fn within(array: &[u64; ROWS], m: u64) -> bool
-    ensures { λ t. ⌜ t ≡ withinTo m (now (array .entry)) rowCount ⌝ }
+fn within(array: &[u64], m: u64) -> bool
+    ensures { λ t. ⌜ t ≡ withinTo m (now (array .entry)) (length (now (array .entry))) ⌝ }
 {
-    let mut i = ROWS;
+    let mut i = array.len();
     while 0 < i {
         i -= 1;
         if m < array[i] {
@@ -99,7 +104,7 @@ fn hot_ranged(h: Hot) -> bool
         & (h.lines <= h.bytes)
         & (h.last <= ROWS)
         & (h.since <= h.bytes)
-        & (h.says <= WITHOUT_DATA)
+        & (h.says <= SAYS_MOST)
         & line_ranged(h)
 }
 
@@ -107,7 +112,7 @@ fn hot_ranged(h: Hot) -> bool
 fn is_rule(n: u64) -> bool
     ensures { λ t. ⌜ t ≡ isRule n ⌝ }
 {
-    (1 <= n) & (n <= TOO_LONG) | (n == WRONG_CHECK_DIGIT)
+    (1 <= n) & (n <= TOO_LONG) | (n == UNTRUE_STATEMENT) | (n == WRONG_CHECK_DIGIT)
 }
 
 // Only 2 and 10 give a position, and it is that of a byte that has been judged.
@@ -138,8 +143,10 @@ fn tally_ranged(tally: Tally, lines: u64, bytes: u64) -> bool
     let stamps = tally.stamps;
     let occurrences = tally.occurrences;
     let totals = tally.totals;
+    let stated = tally.stated;
     within(&stamps, bytes)
         & within(&occurrences, bytes)
+        & within(&stated, UNTRUE)
         & totals_ranged(&counts, &totals)
         & adds_up(&totals, lines)
 }

@@ -1,9 +1,9 @@
 // The bytes of a piece, one after the other.
 ghost use mathlib.Core.Path.{_≡_};
 ghost use Rattle.layout.specs.Packed.{rowNumbers, parentColumn};
-ghost use Rattle.line.specs.Machine.{HotFit, Tables};
-ghost use Rattle.sef.specs.Calls.{setOf, countsWith, stampsWith, occurrencesWith, totalsWith, tallyOf, runOf};
-ghost use Rattle.sef.specs.Ranges.{Below, Held};
+ghost use Rattle.line.specs.Machine.{Below, HotFit, Tables};
+ghost use Rattle.sef.specs.Calls.{setOf, countsWith, stampsWith, occurrencesWith, totalsWith, statedWith, tallyOf, runOf};
+ghost use Rattle.sef.specs.Ranges.{Held};
 use crate::answers::Checked;
 use crate::outcome::ended_by;
 use crate::outcome::opened;
@@ -15,8 +15,11 @@ use layout::roles::block_at;
 use layout::rows::ENTRIES;
 use layout::rows::ROWS;
 use line::hot::Hot;
+use line::order::ROW_9900;
 use line::order::entry;
 use line::order::used;
+use line::statements::NUMBER_UNIT;
+use line::statements::joined;
 use line::step::LF;
 use line::step::Step;
 use line::step::judge;
@@ -72,19 +75,34 @@ fn totalled(rows: &[[u64; 4]; ENTRIES], h: Hot, b: u8, totals: &mut [u64; BLOCKS
     }
 }
 
+// What is stated after a byte that was accepted: LF ends the line at hand, and a 9900 line says it of a row, or of no row.
+fn stated_with(h: Hot, b: u8, stated: &mut [u64; ENTRIES])
+    ensures { λ _. ⌜ now (stated .exit) ≡ statedWith h b (now (stated .entry)) ⌝ }
+{
+    if b != LF || h.row != ROW_9900 {
+        return;
+    }
+    let r = (h.says % NUMBER_UNIT) as usize;
+    if r < ENTRIES {
+        stated[r] = joined(stated[r], h.says / NUMBER_UNIT);
+    }
+}
+
 fn tally_of(
     counts: [u64; ROWS],
     stamps: [u64; ROWS],
     occurrences: [u64; ROWS],
     totals: [u64; BLOCKS],
+    stated: [u64; ENTRIES],
 ) -> Tally
-    ensures { λ r. ⌜ r ≡ tallyOf counts stamps occurrences totals ⌝ }
+    ensures { λ r. ⌜ r ≡ tallyOf counts stamps occurrences totals stated ⌝ }
 {
     Tally {
         counts,
         stamps,
         occurrences,
         totals,
+        stated,
     }
 }
 
@@ -108,6 +126,7 @@ fn judge_all(
     let mut stamps = tally.stamps;
     let mut occurrences = tally.occurrences;
     let mut totals = tally.totals;
+    let mut stated = tally.stated;
     let mut i = 0;
     while i < piece.len() {
         let b = piece[i];
@@ -120,10 +139,13 @@ fn judge_all(
             slots,
             &stamps,
             &occurrences,
+            &counts,
+            &stated,
             b,
         );
         let Step::Next(n) = t else {
-            return ended_by(t, h, tally_of(counts, stamps, occurrences, totals));
+            let kept = tally_of(counts, stamps, occurrences, totals, stated);
+            return ended_by(t, h, kept);
         };
         totalled(rows, h, b, &mut totals);
         noted(
@@ -135,10 +157,11 @@ fn judge_all(
             &mut stamps,
             &mut occurrences,
         );
+        stated_with(h, b, &mut stated);
         h = n;
         i += 1;
     }
-    opened(h, tally_of(counts, stamps, occurrences, totals))
+    opened(h, tally_of(counts, stamps, occurrences, totals, stated))
 }
 
 // The same, with the tables: read once a piece, so that a look-up is a plain load.

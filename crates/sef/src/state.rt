@@ -1,15 +1,17 @@
 // What is kept between pieces.
 use layout::blocks::BLOCKS;
+use layout::rows::ENTRIES;
 use layout::rows::ROWS;
 use line::hot::Hot;
 
 // For each row: its lines ended, the number of its last line, and how many stood under one parent line then. For each block, in the
-// order of blocks: its lines ended.
+// order of blocks: its lines ended. For each row, and for no row: 0, or one more than what 9900 lines state of it.
 pub struct Tally {
     pub counts: [u64; ROWS],
     pub stamps: [u64; ROWS],
     pub occurrences: [u64; ROWS],
     pub totals: [u64; BLOCKS],
+    pub stated: [u64; ENTRIES],
 }
 
 pub struct State {

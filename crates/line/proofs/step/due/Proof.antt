@@ -1,15 +1,16 @@
 use borrow.Author.Needs.{needs}
 use mathlib.Core.Path.{_≡_, refl}
+use Prim.Native.Nat.{_-_}
 use borrow.Author.Tests.{eq-eqb, ne-eqb}
 use native.Mathlib.Omega.{arith}
 use Rattle.layout.specs.Text.{bytes, codeNumber, textNumber}
-use Rattle.layout.specs.Rows.{rowTable, listed, code, blockLetters, placeOf, block, row9999}
+use Rattle.layout.specs.Rows.{rowTable, listed, code, blocks, blockLetters, placeOf, block, row9999}
 use Rattle.field.proofs.Picks.{called}
 use Rattle.line.specs.Machine.{dueOf}
 use Rattle.line.proofs.step.due.Statement.{statement}
 use Rattle.line.proofs.step.due.Tie as tie
 
-block-9999 : block row9999 ≡ 6
+block-9999 : block row9999 ≡ blocks - 1
 unfolding rowTable listed code blockLetters placeOf block bytes codeNumber textNumber
 block-9999 = refl
 

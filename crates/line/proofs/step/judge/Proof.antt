@@ -28,7 +28,7 @@ returns-3 c = search steps depth 12
 bar-requires : tie.Need-bar-requires
 bar-requires c κs =
     let p = c .before .before .before .before .before .before .before .pre in
-    (p .0, (p .1, omega arith))
+    (p .0, (p .1 .0, (p .1 .1, omega arith)))
 
 returns-4 : tie.Need-returns-4
 unfolding stepOf inFieldOf

@@ -4,7 +4,7 @@ use mathlib.Core.Path.{_≡_, refl, _∙_, sym}
 use native.Mathlib.Omega.{arith}
 use Rattle.layout.specs.Rows.{blocks}
 use Rattle.sef.specs.Ranges.{totalsTo}
-use Rattle.sef.proofs.RangeLaws.{all-on, all-off, all-end}
+use Rattle.layout.proofs.Below.{all-on, all-off, all-end}
 use Rattle.sef.proofs.PartLaws.{part-rises, part-ends, part-told}
 use Rattle.field.proofs.Picks.{thus-no, thus-yes}
 use Rattle.sef.proofs.ranges.totals_ranged.Statement.{statement}

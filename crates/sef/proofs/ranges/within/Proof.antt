@@ -3,14 +3,14 @@ use borrow.Author.Needs.{needs}
 use mathlib.Core.Path.{_≡_, refl, _∙_, sym}
 use native.Mathlib.Omega.{arith}
 use borrow.Author.Tests.{le-leb, lt-leb}
-use Rattle.layout.specs.Rows.{rowCount}
+use lib.ListN.{length}
 use Rattle.sef.specs.Ranges.{withinTo}
-use Rattle.sef.proofs.RangeLaws.{all-on, all-off, all-end}
+use Rattle.layout.proofs.Below.{all-on, all-off, all-end}
 use Rattle.sef.proofs.ranges.within.Statement.{statement}
 use Rattle.sef.proofs.ranges.within.Tie as tie
 
 abbrev Inv-loop : tie.InvT-loop
-Inv-loop array m i₀ i = (i ≤ rowCount) × (withinTo m array rowCount ≡ withinTo m array i)
+Inv-loop array m i₀ i = (i ≤ length array) × (withinTo m array (length array) ≡ withinTo m array i)
 
 abbrev μ-loop : tie.MeasureT-loop
 μ-loop array m i₀ i = i
@@ -24,8 +24,8 @@ sub-i c = search needs
 mul-if1 : tie.Need-mul-if1 Inv-loop μ-loop
 mul-if1 c = search needs
 
-element-copy-out-if1 : tie.Need-element-copy-out-if1 Inv-loop μ-loop
-element-copy-out-if1 c = search needs
+shared-slice-read-if1 : tie.Need-shared-slice-read-if1 Inv-loop μ-loop
+shared-slice-read-if1 c = search needs
 
 returns : tie.Need-returns Inv-loop μ-loop
 returns c =
@@ -52,7 +52,7 @@ within-spec =
     loop-holds
     sub-i
     mul-if1
-    element-copy-out-if1
+    shared-slice-read-if1
     returns
     loop-less
     loop-again

@@ -3,7 +3,8 @@ use borrow.Author.Tests.{eq-eqb, ne-eqb}
 use mathlib.Core.Path.{refl}
 use native.Mathlib.Omega.{arith}
 use Rattle.sef.specs.Calls.{countsWith, stampsWith, occurrencesWith}
-use Rattle.sef.proofs.TallyRanges.{entry-le, used-le}
+use Rattle.line.proofs.StatementLaws.{entry-most}
+use Rattle.sef.proofs.TallyRanges.{used-le}
 use Rattle.sef.proofs.run.noted.Statement.{statement}
 use Rattle.sef.proofs.run.noted.Tie as tie
 
@@ -16,7 +17,7 @@ entry-requires c κs = search needs
 add-put : tie.Need-add-put
 add-put c =
     let start = c .before .before .before .before .before .before .before in
-    omega (arith, entry-le _ (start .args .h .row) (start .args .counts .now) (start .pre .1 .1 .0))
+    omega (arith, entry-most _ (start .args .counts .now) (start .pre .1 .1 .0) (start .args .h .row))
 
 put-requires : tie.Need-put-requires
 put-requires c κs = search needs
