@@ -1,5 +1,5 @@
 -- What the field's bar finds; at field 2 of 9999, if it finds nothing, whether all that is stated holds.
-use mathlib.Core.Path.{_≡_}
+use mathlib.Core.Path.{_≡_, _∙_, sym}
 use Prim.Native.Nat.{ℕ, _%_}
 use lib.Dec.{eqb}
 use borrow.Author.Needs.{needs}
@@ -11,6 +11,7 @@ use Rattle.field.specs.Streaming.{faultOf}
 use Rattle.field.specs.declared.bytes.Field.{Field}
 use Rattle.field.proofs.FaultLaws.{countless-fault}
 use Rattle.line.specs.Machine.{dueOf, foundOf}
+use Rattle.line.specs.declared.hot.Hot.{Hot}
 use Rattle.line.proofs.step.found.Statement.{statement}
 use Rattle.line.proofs.step.found.Tie as tie
 
@@ -18,6 +19,11 @@ use Rattle.line.proofs.step.found.Tie as tie
 asked : (kind : ℕ) (f : Field) (due : ℕ) → faultOf kind f (pick (eqb (kind % sizeUnit) countClass) due 0) ≡ faultOf kind f due
 asked kind f due =
     split (eqb (kind % sizeUnit) countClass) (λ t. rw t) (λ t. rw t (countless-fault kind f 0 due t))
+
+-- so what the field breaks is what was found with what was due
+fault-found : (h : Hot) (due n : ℕ) → due ≡ pick (eqb (h .kind % sizeUnit) countClass) (dueOf h) 0
+    → n ≡ faultOf (h .kind) (h .field) due → faultOf (h .kind) (h .field) (dueOf h) ≡ n
+fault-found h due n d e = sym (asked (h .kind) (h .field) (dueOf h)) ∙ rw (← d) (sym e)
 
 due-of-count-requires : tie.Need-due-of-count-requires
 due-of-count-requires c κs = search needs
@@ -31,9 +37,7 @@ returns c =
     let at = c .before in
     let h = at .before .before .args .h in
     rw (
-      ← asked (h .kind) (h .field) (dueOf h),
-      ← at .before .due-of-count .ensures,
-      ← at .fault .ensures,
+      fault-found h _ _ (at .before .due-of-count .ensures) (at .fault .ensures),
       ne-eqb _ _ (c .if1 .taken),
     )
 
@@ -43,9 +47,7 @@ returns-2 c =
     let at = c .before .before .before in
     let h = at .before .before .args .h in
     rw (
-      ← asked (h .kind) (h .field) (dueOf h),
-      ← at .before .due-of-count .ensures,
-      ← at .fault .ensures,
+      fault-found h _ _ (at .before .due-of-count .ensures) (at .fault .ensures),
       c .before .before .if1 .left,
       ne-eqb _ _ (c .if2 .taken),
     )
@@ -59,9 +61,7 @@ returns-3 c =
     let at = c .before .before .before .before .before in
     let h = at .before .before .args .h in
     rw (
-      ← asked (h .kind) (h .field) (dueOf h),
-      ← at .before .due-of-count .ensures,
-      ← at .fault .ensures,
+      fault-found h _ _ (at .before .due-of-count .ensures) (at .fault .ensures),
       c .before .before .before .before .if1 .left,
       eq-eqb _ _ (c .before .before .if2 .left),
       ← c .before .all-hold .ensures,
@@ -74,9 +74,7 @@ returns-4 c =
     let at = c .before .before .before .before .before in
     let h = at .before .before .args .h in
     rw (
-      ← asked (h .kind) (h .field) (dueOf h),
-      ← at .before .due-of-count .ensures,
-      ← at .fault .ensures,
+      fault-found h _ _ (at .before .due-of-count .ensures) (at .fault .ensures),
       c .before .before .before .before .if1 .left,
       eq-eqb _ _ (c .before .before .if2 .left),
       ← c .before .all-hold .ensures,
