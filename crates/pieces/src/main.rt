@@ -1,48 +1,50 @@
 // A batch of calls from standard input, for the comparison with the independent checker. Each command is a letter and a
 // four-byte length, lowest byte first; a piece's bytes follow it. N: a new file; P: a piece; F: finish; C: report; S: a report with
 // room for too few counts. Each answer is a line, with the blocks' totals after the call at its end.
+mod gathered;
+
+use gathered::ROOM;
+use gathered::number;
+use gathered::numbers;
+use gathered::text;
 use layout::rows::ROWS;
 use libc::STDIN_FILENO;
-use libc::STDOUT_FILENO;
 use sef::answers::Numbers;
 use sef::state::State;
 
 // A command's letter and length.
 const HEAD: usize = 5;
 
-fn number(n: u64) {
-    io::write_all(STDOUT_FILENO, b" ");
-    io::print_decimal(STDOUT_FILENO, n);
-}
-
-fn print_all(numbers: &[u64]) {
-    for i in 0..numbers.len() {
-        number(numbers[i]);
-    }
-}
-
 // The end of an answer's line: the totals that the call left.
-fn end(s: State) {
+fn end(gathered: &mut [u8; ROOM], at: usize, s: State) {
     let tally = s.tally;
     let totals = tally.totals;
-    io::write_all(STDOUT_FILENO, b" totals");
-    print_all(&totals);
-    io::write_all(STDOUT_FILENO, b"\n");
+    let named = text(gathered, at, b" totals");
+    let next = numbers(gathered, named, &totals);
+    gathered::end(gathered, next);
 }
 
 // A refusal with its number and place, or the word for none; then lines ended and bytes judged.
-fn print(unrefused: &[u8], n: Numbers) {
+fn put(gathered: &mut [u8; ROOM], unrefused: &[u8], n: Numbers) -> usize {
+    let mut next = 0;
     if n.refusal == 0 {
-        io::write_all(STDOUT_FILENO, unrefused);
+        next = text(gathered, next, unrefused);
     } else {
-        io::write_all(STDOUT_FILENO, b"refused");
-        number(n.refusal);
-        number(n.line);
-        number(n.field);
-        number(n.position);
+        next = text(gathered, next, b"refused");
+        next = number(gathered, next, n.refusal);
+        next = number(gathered, next, n.line);
+        next = number(gathered, next, n.field);
+        next = number(gathered, next, n.position);
     }
-    number(n.lines);
-    number(n.bytes);
+    next = number(gathered, next, n.lines);
+    number(gathered, next, n.bytes)
+}
+
+// An answer that is this line and the totals.
+fn print(unrefused: &[u8], n: Numbers, s: State) {
+    let mut gathered = [0u8; ROOM];
+    let next = put(&mut gathered, unrefused, n);
+    end(&mut gathered, next, s);
 }
 
 fn wide(b: u8) -> usize {
@@ -58,12 +60,13 @@ fn stated(head: &[u8; HEAD]) -> usize {
 
 fn report(s: State) {
     let mut counts = [0u64; ROWS];
-    let numbers = sef::answers::report_numbers(sef::calls::report(s, &mut counts));
-    print(b"counts", numbers);
-    if numbers.refusal == 0 {
-        print_all(&counts);
+    let answer = sef::answers::report_numbers(sef::calls::report(s, &mut counts));
+    let mut gathered = [0u8; ROOM];
+    let mut next = put(&mut gathered, b"counts", answer);
+    if answer.refusal == 0 {
+        next = numbers(&mut gathered, next, &counts);
     }
-    end(s);
+    end(&mut gathered, next, s);
 }
 
 // A report with room for one count too few.
@@ -72,8 +75,8 @@ fn no_room(s: State) {
     print(
         b"counts",
         sef::answers::report_numbers(sef::calls::report(s, &mut counts)),
+        s,
     );
-    end(s);
 }
 
 // The piece's bytes, read to the block's start.
@@ -90,9 +93,8 @@ fn check(s: State, block: &[u8], n: usize) -> State {
     }
     let checked = sef::calls::check(s, &block[..n]);
     let answer = checked.answer;
-    print(b"open", sef::answers::answer_numbers(answer));
     let next = checked.state;
-    end(next);
+    print(b"open", sef::answers::answer_numbers(answer), next);
     next
 }
 
@@ -106,9 +108,8 @@ fn piece(s: State, block: &mut [u8], n: usize) -> State {
 fn finish(s: State) -> State {
     let finished = sef::calls::finish(s);
     let answer = finished.answer;
-    print(b"accepted", sef::answers::final_numbers(answer));
     let next = finished.state;
-    end(next);
+    print(b"accepted", sef::answers::final_numbers(answer), next);
     next
 }
 

@@ -23,9 +23,6 @@ answer-numbers-requires c κs = search needs
 print-requires : tie.Need-print-requires
 print-requires c κs = search needs
 
-end-requires : tie.Need-end-requires
-end-requires c κs = search needs
-
 returns-2 : tie.Need-returns-2
 returns-2 c = search needs
 
@@ -39,5 +36,4 @@ check-spec =
     slice-aggregate-print
     answer-numbers-requires
     print-requires
-    end-requires
     returns-2)

@@ -2,26 +2,23 @@ use borrow.Author.Needs.{needs}
 use Prim.Native.Nat.{_≤_, _-_}
 use mathlib.Core.Path.{_≡_}
 use lib.ListN.{length}
-use Rattle.pieces.proofs.print_all.Statement.{statement}
-use Rattle.pieces.proofs.print_all.Tie as tie
+use Rattle.pieces.proofs.gathered.text.Statement.{statement}
+use Rattle.pieces.proofs.gathered.text.Tie as tie
 
 abbrev Inv-loop : tie.InvT-loop
-Inv-loop numbers i₀ i-end i = (i ≤ i-end) × (i-end ≡ length numbers)
+Inv-loop gathered₀ at bytes next₀ i₀ i-end gathered next i = (i ≤ i-end) × (i-end ≡ length bytes)
 
 abbrev μ-loop : tie.MeasureT-loop
-μ-loop numbers i₀ i-end i = i-end - i
+μ-loop gathered₀ at bytes next₀ i₀ i-end gathered next i = i-end - i
 
 loop-holds : tie.Need-loop-holds Inv-loop μ-loop
 loop-holds c = search needs
 
-mul-number : tie.Need-mul-number Inv-loop μ-loop
-mul-number c = search needs
+shared-slice-read-byte : tie.Need-shared-slice-read-byte Inv-loop μ-loop
+shared-slice-read-byte c = search needs
 
-shared-slice-read-number : tie.Need-shared-slice-read-number Inv-loop μ-loop
-shared-slice-read-number c = search needs
-
-number-requires : tie.Need-number-requires Inv-loop μ-loop
-number-requires c κs = search needs
+byte-requires : tie.Need-byte-requires Inv-loop μ-loop
+byte-requires c κs = search needs
 
 add-i : tie.Need-add-i Inv-loop μ-loop
 add-i c = search needs
@@ -35,16 +32,15 @@ loop-again c = search needs
 returns : tie.Need-returns Inv-loop μ-loop
 returns c = search needs
 
-pub print-all-spec : {M : Type 1} → statement M
-print-all-spec =
+pub text-spec : {M : Type 1} → statement M
+text-spec =
     tie.close
     (tie.spec
     Inv-loop
     μ-loop
     loop-holds
-    mul-number
-    shared-slice-read-number
-    number-requires
+    shared-slice-read-byte
+    byte-requires
     add-i
     loop-less
     loop-again
