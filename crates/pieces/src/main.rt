@@ -9,8 +9,8 @@ use gathered::numbers;
 use gathered::text;
 use layout::rows::ROWS;
 use libc::STDIN_FILENO;
+use sef::State;
 use sef::answers::Numbers;
-use sef::state::State;
 
 // A command's letter and length.
 const HEAD: usize = 5;

@@ -26,7 +26,7 @@ use Rattle.rules.proofs.CleanLaws.{Clean, clear-rules}
 use Rattle.rules.proofs.SoundLaws.{sound, lf-past}
 use Rattle.line.specs.Machine.{entryOf, numberUnit, allHoldOf}
 use Rattle.field.specs.Streaming.{cap}
-use Rattle.sef.specs.Calls.{setOf, countsWith, stampsWith, occurrencesWith, raisedOf, totalsWith, statedOf, statedWith}
+use Rattle.piece.specs.Piece.{setOf, countsWith, stampsWith, occurrencesWith, raisedOf, totalsWith, statedOf, statedWith}
 use Rattle.line.proofs.HotOf.{hotOf, says, says-stated}
 use Rattle.line.proofs.FieldSim.{holds}
 use Rattle.line.proofs.StatementLaws.{word-row-le, word-row-small, statedBy, statedOfRows, stated-other, stated-line, all-hold-is}

@@ -6,11 +6,12 @@ use Prim.Native.Nat.{ℕ}
 use lib.Dec.{eqb}
 use borrow.Author.Tests.{eq-eqb, ne-eqb}
 use Rattle.layout.specs.Pick.{pick}
-use Rattle.sef.specs.Calls.{runOf, keptOf, unchanged, checkOf, finalAnswerOf, closedOf, finallyUnchanged, finishOf}
-use Rattle.sef.specs.Ranges.{rangedOf}
-use Rattle.sef.specs.declared.state.State.{State}
-use Rattle.sef.specs.declared.answers.Answer.the-variants as Piece
-use Rattle.sef.specs.declared.answers.FinalAnswer.the-variants as Final
+use Rattle.piece.specs.Piece.{runOf, keptOf}
+use Rattle.sef.specs.Calls.{unchanged, checkOf, finalAnswerOf, closedOf, finallyUnchanged, finishOf}
+use Rattle.state.specs.Ranges.{rangedOf}
+use Rattle.state.specs.declared.State.{State}
+use Rattle.state.specs.declared.answers.Answer.the-variants as Piece
+use Rattle.state.specs.declared.answers.FinalAnswer.the-variants as Final
 
 -- (Laws on tests: a rewrite by a field's value would rewrite within the state itself.)
 at-first : {A : Type 0} (a : Bool) (x y : A) → a ≡ false → pick a x y ≡ y

@@ -10,19 +10,21 @@ use borrow.Author.Tests.{lt-ltb, le-ltb}
 use Rattle.layout.specs.Rows.{rowCount}
 use Rattle.rules.specs.Verdict.{countsOf}
 use Rattle.rules.proofs.TestLaws.{both}
-use Rattle.sef.specs.Answers.{numbers, finallySaid, reportSaid}
-use Rattle.sef.specs.Calls.{runOf, checkOf, keptOf, unchanged, finalAnswerOf, closedOf, finallyUnchanged, finishOf}
+use Rattle.state.specs.Answers.{numbers, finallySaid, reportSaid}
+use Rattle.piece.specs.Piece.{runOf, keptOf}
+use Rattle.sef.specs.Calls.{checkOf, unchanged, finalAnswerOf, closedOf, finallyUnchanged, finishOf}
 use Rattle.sef.specs.Calls.{reportOf, reportedOf}
-use Rattle.sef.specs.Ranges.{rangedOf}
-use Rattle.sef.specs.Promises.{AllBytes, more, done, Checks, Finishes, Reports}
-use Rattle.sef.specs.declared.state.State.{State}
-use Rattle.sef.specs.declared.answers.Numbers.{Numbers}
-use Rattle.sef.specs.declared.answers.Checked.{Checked}
-use Rattle.sef.specs.declared.answers.Finished.{Finished}
-use Rattle.sef.specs.declared.answers.Answer.the-variants as Piece
-use Rattle.sef.specs.declared.answers.FinalAnswer.{FinalAnswer}
-use Rattle.sef.specs.declared.answers.FinalAnswer.the-variants as Final
-use Rattle.sef.specs.declared.answers.ReportAnswer.the-variants as Report
+use Rattle.state.specs.Ranges.{rangedOf}
+use Rattle.piece.specs.Piece.{AllBytes}
+use Rattle.sef.specs.Promises.{more, done, Checks, Finishes, Reports}
+use Rattle.state.specs.declared.State.{State}
+use Rattle.state.specs.declared.answers.Numbers.{Numbers}
+use Rattle.state.specs.declared.answers.Checked.{Checked}
+use Rattle.state.specs.declared.answers.Finished.{Finished}
+use Rattle.state.specs.declared.answers.Answer.the-variants as Piece
+use Rattle.state.specs.declared.answers.FinalAnswer.{FinalAnswer}
+use Rattle.state.specs.declared.answers.FinalAnswer.the-variants as Final
+use Rattle.state.specs.declared.answers.ReportAnswer.the-variants as Report
 use Rattle.sef.proofs.CallCases.{check-damaged, check-late, check-kept, check-run, finish-damaged, finish-late, finish-now}
 use Rattle.sef.proofs.InRangeLaws.{check-ranged, finish-ranged}
 use Rattle.sef.proofs.Joined.{given-ranged, given-counts, given-totals, given-ended, check-joined, check-counted}

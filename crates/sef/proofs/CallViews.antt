@@ -9,18 +9,20 @@ use lib.ListN.{length, drop}
 use borrow.Author.Tests.{eqb-false}
 use Rattle.layout.specs.Pick.{pick}
 use Rattle.layout.specs.Rows.{rowCount, row9999}
-use Rattle.sef.specs.Answers.{numbers}
-use Rattle.sef.specs.Calls.{keptOf, unchanged, checkOf, finalAnswerOf, finallyUnchanged, finishOf, reportOf, reportedOf}
-use Rattle.sef.specs.Ranges.{rangedOf}
-use Rattle.sef.specs.Promises.{AllBytes, Reports}
-use Rattle.sef.specs.declared.state.State.{State}
-use Rattle.sef.specs.declared.answers.Checked.{Checked}
-use Rattle.sef.specs.declared.answers.Finished.{Finished}
-use Rattle.sef.specs.declared.answers.Answer.the-variants as Piece
-use Rattle.sef.specs.declared.answers.FinalAnswer.{FinalAnswer}
-use Rattle.sef.specs.declared.answers.FinalAnswer.the-variants as Final
-use Rattle.sef.specs.declared.answers.ReportAnswer.{ReportAnswer}
-use Rattle.sef.specs.declared.answers.ReportAnswer.the-variants as Report
+use Rattle.state.specs.Answers.{numbers}
+use Rattle.piece.specs.Piece.{keptOf}
+use Rattle.sef.specs.Calls.{unchanged, checkOf, finalAnswerOf, finallyUnchanged, finishOf, reportOf, reportedOf}
+use Rattle.state.specs.Ranges.{rangedOf}
+use Rattle.piece.specs.Piece.{AllBytes}
+use Rattle.sef.specs.Promises.{Reports}
+use Rattle.state.specs.declared.State.{State}
+use Rattle.state.specs.declared.answers.Checked.{Checked}
+use Rattle.state.specs.declared.answers.Finished.{Finished}
+use Rattle.state.specs.declared.answers.Answer.the-variants as Piece
+use Rattle.state.specs.declared.answers.FinalAnswer.{FinalAnswer}
+use Rattle.state.specs.declared.answers.FinalAnswer.the-variants as Final
+use Rattle.state.specs.declared.answers.ReportAnswer.{ReportAnswer}
+use Rattle.state.specs.declared.answers.ReportAnswer.the-variants as Report
 use Rattle.sef.proofs.InRangeLaws.{Pieces, check-pieces, Finishing, finish-finishing}
 use Rattle.sef.proofs.CallCases.{check-damaged, finish-damaged}
 

@@ -20,25 +20,26 @@ use Rattle.rules.proofs.FollowsLaws.{refused-names}
 use Rattle.rules.proofs.TotalLaws.{accepted-last, accepted-sum, accepted-total, accepted-closing, accepted-first}
 use Rattle.rules.proofs.TotalLaws.{accepted-there, accepted-has-0-and-9, accepted-statement}
 use Rattle.line.specs.Machine.{positionOf}
-use Rattle.sef.specs.Answers.{numbers, numbersOf, said, finallySaid, reportSaid}
-use Rattle.sef.specs.Calls.{openOf, stoppedOf, runOf, keptOf, unchanged, checkOf, finalAnswerOf, finishOf, reportOf}
-use Rattle.sef.specs.Ranges.{positionRanged, rangedOf}
+use Rattle.state.specs.Answers.{numbers, numbersOf, said, finallySaid, reportSaid}
+use Rattle.piece.specs.Piece.{openOf, stoppedOf, runOf, keptOf}
+use Rattle.sef.specs.Calls.{unchanged, checkOf, finalAnswerOf, finishOf, reportOf}
+use Rattle.state.specs.Ranges.{positionRanged, rangedOf}
 use Rattle.sef.specs.Promises.{Reached, start, more, Finishes}
 use Rattle.sef.specs.Demands as D
 use Rattle.sef.specs.Demands.{Answered, isAccepted, isRefused, InTable, isOpen, byRule, ofCall, ReportInTable, refuses}
 use Rattle.sef.specs.Demands.{Positioned, Stays}
-use Rattle.sef.specs.declared.state.State.{State}
-use Rattle.sef.specs.declared.answers.Numbers.{Numbers}
-use Rattle.sef.specs.declared.answers.Checked.{Checked}
-use Rattle.sef.specs.declared.answers.Finished.{Finished}
-use Rattle.sef.specs.declared.answers.Answer.the-variants as Piece
-use Rattle.sef.specs.declared.answers.FinalAnswer.{FinalAnswer}
-use Rattle.sef.specs.declared.answers.FinalAnswer.the-variants as Final
-use Rattle.sef.specs.declared.answers.ReportAnswer.{ReportAnswer}
-use Rattle.sef.specs.declared.answers.ReportAnswer.the-variants as Report
-use Rattle.sef.proofs.RangeLaws.{kept-refusal, no-field, no-position, OfRule, of-rule, not-of-call, rule-some}
-use Rattle.sef.proofs.StepRanges.{position-ranged}
-use Rattle.sef.proofs.RunLaws.{Comes, opens, stops-by}
+use Rattle.state.specs.declared.State.{State}
+use Rattle.state.specs.declared.answers.Numbers.{Numbers}
+use Rattle.state.specs.declared.answers.Checked.{Checked}
+use Rattle.state.specs.declared.answers.Finished.{Finished}
+use Rattle.state.specs.declared.answers.Answer.the-variants as Piece
+use Rattle.state.specs.declared.answers.FinalAnswer.{FinalAnswer}
+use Rattle.state.specs.declared.answers.FinalAnswer.the-variants as Final
+use Rattle.state.specs.declared.answers.ReportAnswer.{ReportAnswer}
+use Rattle.state.specs.declared.answers.ReportAnswer.the-variants as Report
+use Rattle.state.proofs.RangeLaws.{kept-refusal, no-field, no-position, OfRule, of-rule, not-of-call, rule-some}
+use Rattle.piece.proofs.StepRanges.{position-ranged}
+use Rattle.piece.proofs.RunLaws.{Comes, opens, stops-by}
 use Rattle.sef.proofs.InRangeLaws.{stopped-ranged, Pieces, late, kept, run, check-pieces, Finishing, closes}
 use Rattle.sef.proofs.InRangeLaws.{finish-finishing}
 use Rattle.sef.proofs.Joined.{reached-state, reached-ranged, reached-open, given-ranged}

@@ -14,7 +14,8 @@ use Rattle.rules.proofs.BlockLaws.{since}
 use Rattle.rules.proofs.OccurrenceLaws.{stamps, occurrences, stamped, occurred}
 use Rattle.rules.proofs.CleanLaws.{clean-start}
 use Rattle.field.specs.Streaming.{fieldAfter}
-use Rattle.sef.specs.Calls.{fresh, openOf}
+use Rattle.piece.specs.Piece.{openOf}
+use Rattle.sef.specs.Calls.{fresh}
 use Rattle.line.proofs.HotOf.{says, lastSays}
 use Rattle.line.proofs.StatementLaws.{statedOfRow}
 use Rattle.sef.proofs.StateAfter.{openAt, checkedAfter, after-clean}

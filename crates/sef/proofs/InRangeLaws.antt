@@ -12,21 +12,22 @@ use Rattle.layout.specs.Text.{bytes, codeNumber, textNumber}
 use Rattle.layout.specs.Rows.{rowTable, listed, code, block, placeOf, blockLetters}
 use Rattle.rules.specs.Totals.{sum, sumOfBlock}
 use Rattle.line.specs.Machine.{mostBars, positionOf}
-use Rattle.sef.specs.Calls.{stateOf, openOf, stoppedOf, judgedOne, runOf, fresh, keptOf, unchanged, checkOf, finalAnswerOf}
+use Rattle.piece.specs.Piece.{stateOf, openOf, stoppedOf, judgedOne, runOf, keptOf}
+use Rattle.sef.specs.Calls.{fresh, unchanged, checkOf, finalAnswerOf}
 use Rattle.sef.specs.Calls.{closedOf, finallyUnchanged, finishOf}
-use Rattle.sef.specs.Ranges.{lineRanged, hotRanged, isRule, refusalRanged, tallyRanged, rangedOf, Held}
-use Rattle.sef.specs.Ranges.{TallyFit}
-use Rattle.sef.specs.Promises.{AllBytes}
+use Rattle.state.specs.Ranges.{lineRanged, hotRanged, isRule, refusalRanged, tallyRanged, rangedOf, Held}
+use Rattle.state.specs.Ranges.{TallyFit}
+use Rattle.piece.specs.Piece.{AllBytes}
 use Rattle.line.specs.declared.hot.Hot.{Hot}
-use Rattle.sef.specs.declared.state.State.{State}
-use Rattle.sef.specs.declared.state.Tally.{Tally}
-use Rattle.sef.specs.declared.answers.Checked.{Checked}
-use Rattle.sef.specs.declared.answers.Finished.{Finished}
-use Rattle.sef.specs.declared.answers.Answer.the-variants as Piece
-use Rattle.sef.specs.declared.answers.FinalAnswer.the-variants as Final
-use Rattle.sef.proofs.RangeLaws.{open-ranged, broken-ranged, held-of, ranged-by}
-use Rattle.sef.proofs.StepRanges.{judged-fit, position-ranged}
-use Rattle.sef.proofs.RunLaws.{Comes, opens, stops-by, run-comes}
+use Rattle.state.specs.declared.State.{State}
+use Rattle.state.specs.declared.Tally.{Tally}
+use Rattle.state.specs.declared.answers.Checked.{Checked}
+use Rattle.state.specs.declared.answers.Finished.{Finished}
+use Rattle.state.specs.declared.answers.Answer.the-variants as Piece
+use Rattle.state.specs.declared.answers.FinalAnswer.the-variants as Final
+use Rattle.state.proofs.RangeLaws.{open-ranged, broken-ranged, held-of, ranged-by}
+use Rattle.piece.proofs.StepRanges.{judged-fit, position-ranged}
+use Rattle.piece.proofs.RunLaws.{Comes, opens, stops-by, run-comes}
 
 pub fresh-ranged : rangedOf fresh ≡ true
 unfolding rangedOf hotRanged lineRanged refusalRanged tallyRanged allBelow sum sumOfBlock block placeOf blockLetters code listed

@@ -6,12 +6,12 @@ use mathlib.Core.List.{List, [], _++_, reverse, reverseAux-append}
 use mathlib.Core.Logic.{⊎-elim}
 use Prim.Native.Nat.{ℕ}
 use Rattle.rules.specs.Verdict.{verdictOf, finalOf, countsOf, totalsOf}
-use Rattle.sef.specs.Answers.{numbersOf, said, finallySaid}
+use Rattle.state.specs.Answers.{numbersOf, said, finallySaid}
 use Rattle.sef.specs.Calls.{checkOf, closedOf, finishOf}
-use Rattle.sef.specs.Ranges.{rangedOf}
+use Rattle.state.specs.Ranges.{rangedOf}
 use Rattle.sef.specs.Promises.{Reached, start, more, Closed, done, Given}
-use Rattle.sef.specs.declared.state.State.{State}
-use Rattle.sef.specs.declared.answers.Finished.{Finished}
+use Rattle.state.specs.declared.State.{State}
+use Rattle.state.specs.declared.answers.Finished.{Finished}
 use Rattle.sef.proofs.InRangeLaws.{fresh-ranged, check-ranged, finish-ranged, Finishing, late, closes, finish-finishing}
 use Rattle.sef.proofs.StateAfter.{checkedAfter, check-after, finish-after, said-after, ended-after, counts-after}
 use Rattle.sef.proofs.StateAfter.{totals-after, open-after}

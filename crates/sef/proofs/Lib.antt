@@ -1,11 +1,4 @@
-pub mod RangeLaws
 pub mod FillLaws
-pub mod SumLaws
-pub mod PartLaws
-pub mod StepRanges
-pub mod StepLines
-pub mod TallyRanges
-pub mod RunLaws
 pub mod CallCases
 pub mod InRangeLaws
 pub mod ArrayLaws

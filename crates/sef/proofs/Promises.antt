@@ -10,17 +10,18 @@ use Rattle.rules.specs.Totals.{sum}
 use Rattle.rules.specs.Verdict.{standing, totals, totalsOf}
 use Rattle.rules.proofs.TestLaws.{both}
 use Rattle.rules.proofs.CountLaws.{totals-at}
-use Rattle.sef.specs.Answers.{numbersOf, said, finallySaid, reportSaid}
-use Rattle.sef.specs.Calls.{openOf, stoppedOf, keptOf, checkOf, finalAnswerOf, finishOf}
-use Rattle.sef.specs.Ranges.{rangedOf}
+use Rattle.state.specs.Answers.{numbersOf, said, finallySaid, reportSaid}
+use Rattle.piece.specs.Piece.{openOf, stoppedOf, keptOf}
+use Rattle.sef.specs.Calls.{checkOf, finalAnswerOf, finishOf}
+use Rattle.state.specs.Ranges.{rangedOf}
 use Rattle.sef.specs.Promises as P
-use Rattle.sef.specs.declared.state.State.{State}
-use Rattle.sef.specs.declared.answers.Checked.{Checked}
-use Rattle.sef.specs.declared.answers.Finished.{Finished}
-use Rattle.sef.specs.declared.answers.FinalAnswer.{FinalAnswer}
-use Rattle.sef.specs.declared.answers.ReportAnswer.{ReportAnswer}
-use Rattle.sef.proofs.RangeLaws.{state-tally}
-use Rattle.sef.proofs.RunLaws.{Comes, opens, stops-by}
+use Rattle.state.specs.declared.State.{State}
+use Rattle.state.specs.declared.answers.Checked.{Checked}
+use Rattle.state.specs.declared.answers.Finished.{Finished}
+use Rattle.state.specs.declared.answers.FinalAnswer.{FinalAnswer}
+use Rattle.state.specs.declared.answers.ReportAnswer.{ReportAnswer}
+use Rattle.state.proofs.RangeLaws.{state-tally}
+use Rattle.piece.proofs.RunLaws.{Comes, opens, stops-by}
 use Rattle.sef.proofs.InRangeLaws.{Pieces, late, kept, run, check-pieces, Finishing, closes, finish-finishing}
 use Rattle.sef.proofs.CallViews.{AnyReport, damaged, no-room, writes, report-any, Finals, accepts, short, keeps, finals}
 use Rattle.sef.proofs.Joined.{given-totals}

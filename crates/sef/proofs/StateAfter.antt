@@ -21,11 +21,12 @@ use Rattle.rules.proofs.OccurrenceLaws.{stamps, occurrences}
 use Rattle.rules.proofs.CleanLaws.{Clean, Refused, clean-next, verdict-broken, verdict-stays, standing-refused, standing-clean}
 use Rattle.rules.proofs.CleanLaws.{clean-or-refused, finish-clean, finish-refused}
 use Rattle.line.specs.Machine.{positionOf}
-use Rattle.sef.specs.Answers.{numbersOf, said, finallySaid}
-use Rattle.sef.specs.Calls.{tallyOf, openOf, stoppedOf, runOf, checkOf, keptOf, finalAnswerOf, finishOf}
-use Rattle.sef.specs.Ranges.{rangedOf}
-use Rattle.sef.specs.declared.state.Tally.{Tally}
-use Rattle.sef.specs.declared.answers.Checked.{Checked}
+use Rattle.state.specs.Answers.{numbersOf, said, finallySaid}
+use Rattle.piece.specs.Piece.{tallyOf, openOf, stoppedOf, runOf, keptOf}
+use Rattle.sef.specs.Calls.{checkOf, finalAnswerOf, finishOf}
+use Rattle.state.specs.Ranges.{rangedOf}
+use Rattle.state.specs.declared.Tally.{Tally}
+use Rattle.state.specs.declared.answers.Checked.{Checked}
 use Rattle.line.proofs.HotOf.{hotOf}
 use Rattle.line.proofs.Sim.{step-is}
 use Rattle.line.proofs.StatementLaws.{statedOfRows}

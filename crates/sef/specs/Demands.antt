@@ -15,18 +15,19 @@ use Rattle.rules.specs.Verdict.{Verdict, stillOpen, refused, accepted, verdictO
 use Rattle.rules.specs.Follows.{NoneBroken, Follows, FirstBroken, CutShort}
 use Rattle.rules.specs.Totals.{closingsState, statedBy, linesOf, lastLine, rowsOf, blockCount, IsAmong, IsThere}
 use Rattle.line.specs.Machine.{mostBars}
-use Rattle.sef.specs.Answers.{numbers, numbersOf, said, finallySaid, reportSaid}
+use Rattle.state.specs.Answers.{numbers, numbersOf, said, finallySaid, reportSaid}
 use Rattle.sef.specs.Calls.{fresh, checkOf}
-use Rattle.sef.specs.Ranges.{isRule, positionRanged, rangedOf}
-use Rattle.sef.specs.Promises.{AllBytes, Reached, Given, Checks, Finishes, Reports}
-use Rattle.sef.specs.declared.state.State.{State}
-use Rattle.sef.specs.declared.answers.Numbers.{Numbers}
-use Rattle.sef.specs.declared.answers.Checked.{Checked}
-use Rattle.sef.specs.declared.answers.Finished.{Finished}
-use Rattle.sef.specs.declared.answers.ReportAnswer.{ReportAnswer}
-use Rattle.sef.specs.declared.answers.Answer.the-variants as Piece
-use Rattle.sef.specs.declared.answers.FinalAnswer.the-variants as Final
-use Rattle.sef.specs.declared.answers.ReportAnswer.the-variants as Report
+use Rattle.state.specs.Ranges.{isRule, positionRanged, rangedOf}
+use Rattle.piece.specs.Piece.{AllBytes}
+use Rattle.sef.specs.Promises.{Reached, Given, Checks, Finishes, Reports}
+use Rattle.state.specs.declared.State.{State}
+use Rattle.state.specs.declared.answers.Numbers.{Numbers}
+use Rattle.state.specs.declared.answers.Checked.{Checked}
+use Rattle.state.specs.declared.answers.Finished.{Finished}
+use Rattle.state.specs.declared.answers.ReportAnswer.{ReportAnswer}
+use Rattle.state.specs.declared.answers.Answer.the-variants as Piece
+use Rattle.state.specs.declared.answers.FinalAnswer.the-variants as Final
+use Rattle.state.specs.declared.answers.ReportAnswer.the-variants as Report
 
 -- The tender.
 

@@ -11,17 +11,14 @@ use Rattle.rules.specs.Bytes.{rows}
 use Rattle.rules.specs.Counts.{linesOfBlock}
 use Rattle.rules.specs.Totals.{sum, blockCount}
 use Rattle.rules.specs.Verdict.{standing, verdictOf, finalOf, countsOf, totalsOf}
-use Rattle.sef.specs.Answers.{numbers, numbersOf, said, finallySaid, reportSaid}
+use Rattle.state.specs.Answers.{numbers, numbersOf, said, finallySaid, reportSaid}
+use Rattle.piece.specs.Piece.{AllBytes}
 use Rattle.sef.specs.Calls.{fresh, checkOf, finishOf, reportOf, reportedOf}
-use Rattle.sef.specs.Ranges.{rangedOf}
-use Rattle.sef.specs.declared.state.State.{State}
-use Rattle.sef.specs.declared.answers.Checked.{Checked}
-use Rattle.sef.specs.declared.answers.Finished.{Finished}
-use Rattle.sef.specs.declared.answers.ReportAnswer.{ReportAnswer}
-
--- each element of a piece is a byte
-abbrev pub AllBytes : List ℕ → Type 0
-AllBytes piece = (k : ℕ) → getD piece k 0 < 256
+use Rattle.state.specs.Ranges.{rangedOf}
+use Rattle.state.specs.declared.State.{State}
+use Rattle.state.specs.declared.answers.Checked.{Checked}
+use Rattle.state.specs.declared.answers.Finished.{Finished}
+use Rattle.state.specs.declared.answers.ReportAnswer.{ReportAnswer}
 
 -- the state after pieces whose bytes, joined, are the file so far: before finish, and after it
 pub data Reached : List ℕ → State → Type 0 where

@@ -1,9 +1,8 @@
-// The checker: a file in pieces, judged byte by byte. The public calls are in `calls`; what they take and give back is in `state` and
+// The checker: a file in pieces, judged byte by byte. The public calls are in `calls`; what they take and give back is `State` and
 // `answers`.
-pub mod answers;
 pub mod calls;
 mod fill;
-mod outcome;
-mod ranges;
-mod run;
-pub mod state;
+
+pub use state::State;
+pub use state::Tally;
+pub use state::answers;

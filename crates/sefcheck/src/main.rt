@@ -4,8 +4,8 @@ use layout::blocks::BLOCKS;
 use libc::STDERR_FILENO;
 use libc::STDIN_FILENO;
 use libc::STDOUT_FILENO;
+use sef::State;
 use sef::answers::Numbers;
-use sef::state::State;
 
 fn line(name: &[u8], n: u64) {
     io::write_all(STDOUT_FILENO, name);

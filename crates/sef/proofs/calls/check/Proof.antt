@@ -5,7 +5,7 @@ use mathlib.Core.List.{List}
 use mir.Syntax.{w8}
 use mir.Val.{Fits}
 use Rattle.field.proofs.Picks.{thus-no, thus-yes}
-use Rattle.sef.proofs.RangeLaws.{state-fit, held-of}
+use Rattle.state.proofs.RangeLaws.{state-fit, held-of}
 use Rattle.sef.proofs.CallLaws.{checks-damaged, checks-late, checks-kept, checks-run}
 use Rattle.sef.proofs.calls.check.Statement.{statement}
 use Rattle.sef.proofs.calls.check.Tie as tie

@@ -4,7 +4,7 @@ use mathlib.Core.Path.{refl, ap}
 use native.Mathlib.Omega.{arith}
 use Rattle.layout.specs.Rows.{row9999}
 use Rattle.sef.specs.Calls.{finalAnswerOf}
-use Rattle.sef.specs.declared.answers.FinalAnswer.the-variants.{Refused}
+use Rattle.state.specs.declared.answers.FinalAnswer.the-variants.{Refused}
 use Rattle.sef.proofs.calls.final_answer.Statement.{statement}
 use Rattle.sef.proofs.calls.final_answer.Tie as tie
 

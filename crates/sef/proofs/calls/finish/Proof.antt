@@ -1,7 +1,7 @@
 use mathlib.Core.Path.{refl}
 use borrow.Author.Needs.{needs}
 use Rattle.field.proofs.Picks.{thus-no, thus-yes}
-use Rattle.sef.proofs.RangeLaws.{state-fit}
+use Rattle.state.proofs.RangeLaws.{state-fit}
 use Rattle.sef.proofs.CallLaws.{finishes-damaged, finishes-late, finishes-now}
 use Rattle.sef.proofs.calls.finish.Statement.{statement}
 use Rattle.sef.proofs.calls.finish.Tie as tie

@@ -1,0 +1,4 @@
+pub mod StepRanges
+pub mod StepLines
+pub mod TallyRanges
+pub mod RunLaws
