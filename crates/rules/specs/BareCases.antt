@@ -241,11 +241,11 @@ emptyCases =
     []
 
 -- the same at the bar after field 2 of 9999, after this line: 9999 itself is counted, and 13 goes before
-unfoldable pub lastBarCase : Bare
-lastBarCase = bare 0 (brokenAfter "|9900|9999|1|\r\n|9999|2" bar)
-
-unfoldable pub countBeforeCase : Bare
-countBeforeCase = bare 13 (brokenAfter "|9900|9999|0|\r\n|9999|3" bar)
+unfoldable pub lastBarCases : List Bare
+lastBarCases =
+    bare 0 (brokenAfter "|9900|9999|1|\r\n|9999|2" bar) ∷
+    bare 13 (brokenAfter "|9900|9999|0|\r\n|9999|3" bar) ∷
+    []
 
 -- a code stated twice, once untrue
 unfoldable pub statedBoth : String → String → ℕ
