@@ -56,16 +56,25 @@ module _ (h : Hot) (t : Tally) (p : List ℕ) (i : ℕ) where
   run-next l n e = rw (drop-cons p i 0 l, e, add-one)
 
   -- the step s refused
-  pub run-stop : i < length p → (s : Step) (rule field : ℕ) → s ≡ stepWith h t (getD p i 0)
+  run-stop : i < length p → (s : Step) (rule field : ℕ) → s ≡ stepWith h t (getD p i 0)
       → s ≡ Broken rule field → runOf h t (drop i p) ≡ onStep s (λ n. openOf h t) (stoppedOf h t)
   unfolding runOf
   run-stop l s rule field e q =
       let e′ : stepWith h t (getD p i 0) ≡ Broken rule field = sym e ∙ q in
       rw (drop-cons p i 0 l, e′, q)
 
-  pub run-end : length p ≤ i → i ≤ length p → runOf h t (drop i p) ≡ openOf h t
+  run-end : length p ≤ i → i ≤ length p → runOf h t (drop i p) ≡ openOf h t
   unfolding runOf
   run-end l g = let e : i ≡ length p = omega arith in rw (e, drop-length)
+
+-- What the loop gives back, with the tally k, is what the piece comes to: the step s refused, or all bytes are judged.
+module _ {p : List ℕ} {h₀ : Hot} {t₀ : Tally} {h : Hot} {t : Tally} {i : ℕ} (g : Going p h₀ t₀ h t i) where
+  pub going-stop : i < length p → (s : Step) (rule field : ℕ) → s ≡ stepWith h t (getD p i 0) → s ≡ Broken rule field
+      → (k : Tally) → k ≡ t → (r : Checked) → r ≡ onStep s (λ n. openOf h k) (stoppedOf h k) → r ≡ runOf h₀ t₀ p
+  going-stop l s rule field e q k kept r is = is ∙ rw kept (sym (g .runs ∙ run-stop h t p i l s rule field e q))
+
+  pub going-end : length p ≤ i → (k : Tally) → k ≡ t → (r : Checked) → r ≡ openOf h k → r ≡ runOf h₀ t₀ p
+  going-end l k kept r is = is ∙ rw kept (sym (g .runs ∙ run-end h t p i l (g .within)))
 
 pub going-next : {p : List ℕ} {h₀ : Hot} {t₀ : Tally} {h : Hot} {cs ss os bs ds : List ℕ} {i : ℕ}
     → Going p h₀ t₀ h (tallyOf cs ss os bs ds) i → i < length p → getD p i 0 < 256 → (n : Hot)

@@ -4,7 +4,7 @@ use mathlib.Core.Path.{_∙_, sym}
 use native.Mathlib.Omega.{arith}
 use lib.ListN.{length}
 use Rattle.piece.specs.Piece.{tallyOf}
-use Rattle.piece.proofs.RunLaws.{Going, run-stop, run-end, going-next, held-counts, held-small, held-totals}
+use Rattle.piece.proofs.RunLaws.{Going, going-stop, going-end, going-next, held-counts, held-small, held-totals}
 use Rattle.piece.proofs.run.judge_all.Statement.{statement}
 use Rattle.piece.proofs.run.judge_all.Tie as tie
 
@@ -47,9 +47,8 @@ returns c =
     let judged = told .before .before in
     let turn = judged .before .before .before .before .before .before in
     let at = turn .before .loop in
-    let stops = run-stop _ _ _ (at .i) (turn .loop-test .taken) in
-    (rw (c .before .tally-of .ensures) at (c .ended-by .ensures))
-    ∙ sym (at .inv .runs ∙ stops _ _ _ (judged .judge .ensures) (told .enum-told .given .1))
+    going-stop (at .inv) (turn .loop-test .taken) _ _ _ (judged .judge .ensures) (told .enum-told .given .1) _
+    (c .before .tally-of .ensures) _ (c .ended-by .ensures)
 
 totalled-requires : tie.Need-totalled-requires Inv-loop μ-loop
 totalled-requires c κs =
@@ -102,8 +101,7 @@ opened-requires c κs = search needs
 returns-2 : tie.Need-returns-2 Inv-loop μ-loop
 returns-2 c =
     let at = c .before .before .before .loop in
-    (rw (c .before .tally-of2 .ensures) at (c .opened .ensures))
-    ∙ sym (at .inv .runs ∙ run-end _ _ _ (at .i) (c .before .before .loop-test .left) (at .inv .within))
+    going-end (at .inv) (c .before .before .loop-test .left) _ (c .before .tally-of2 .ensures) _ (c .opened .ensures)
 
 pub judge-all-spec : {M : Type 1} → statement M
 judge-all-spec =
