@@ -17,5 +17,4 @@ pub mod TotalLaws
 pub mod FollowsLaws
 pub mod DecimalLaws
 pub mod PositionLaws
-pub mod StarredCases
 pub mod BareCases

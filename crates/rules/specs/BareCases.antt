@@ -1,5 +1,5 @@
 -- 01, "Both sides of each rule", and 02, requests h, e, g and f: starred cases and others, each for one rule, without the bytes around
--- it. The starred cases are whole files (Cases); these are short enough that a check which refuses one prints the two numbers
+-- it. The starred cases are whole files (the crate `cases`); these are short enough that a check which refuses one prints the two numbers
 -- that differ.
 use mathlib.Core.List.{List, [], _∷_, map, reverse}
 use Prim.Native.Nat.{ℕ, _+_, _*_}

@@ -9,5 +9,4 @@ pub mod Rules
 pub mod Verdict
 pub mod Totals
 pub mod Follows
-pub mod Cases
 pub mod BareCases

@@ -7,17 +7,17 @@ use Rattle.layout.specs.Text
 use Rattle.layout.specs.Rows
 use Rattle.layout.specs.Sheets
 use Rattle.layout.specs.Kinds
 use Rattle.rules.specs.Bytes
 use Rattle.rules.specs.Order
 use Rattle.rules.specs.Counts
 use Rattle.rules.specs.CheckDigits
 use Rattle.rules.specs.Fields
 use Rattle.rules.specs.Position
 use Rattle.rules.specs.Statements
 use Rattle.rules.specs.Rules
 use Rattle.rules.specs.Verdict
 use Rattle.rules.specs.Verdict.{finalOf, totalsOf}
-use Rattle.rules.specs.Cases.{cases, totalsOfFiles, fileOf}
+use Rattle.cases.specs.Cases.{cases, totalsOfFiles, fileOf}
 
 computed : (map (λ c. finalOf (c .file)) cases ≡ map (λ c. c .answer) cases)
     × (map (λ c. totalsOf (c .file)) totalsOfFiles ≡ map (λ c. c .totals) totalsOfFiles)
