@@ -70,11 +70,11 @@ fn assert_caught(fault: &str, more: &[&str]) {
 #[test]
 fn the_oracle_equals_itself() {
     let keep = kept("none");
-    let output = compare(STAND_IN, &keep, &[]);
+    let output = compare(STAND_IN, &keep, &["--cases", "6000"]);
     let text = text(&output);
     assert!(output.status.success(), "{text}");
     let last = text.lines().last().unwrap_or_default();
-    assert!(last.starts_with("compare: 55000 cases, ") && last.ends_with(" answers, all equal"));
+    assert!(last.starts_with("compare: 6000 cases, ") && last.ends_with(" answers, all equal"));
     assert!(text.contains("  N with 2 decimals ") && text.contains("  C at most 65536 "), "{text}");
     assert!(text.contains("  cnpj ") && text.contains("  cpf "), "{text}");
     assert!(!keep.exists());
