@@ -18,10 +18,10 @@ ranged-requires : tie.Need-ranged-requires
 ranged-requires c κs = search needs
 
 returns : tie.Need-returns
-returns c = search (checks-damaged, thus-no, byte)
+returns c = checks-damaged _ _ (λ k. search byte) (search thus-no)
 
 returns-2 : tie.Need-returns-2
-returns-2 c = search (checks-late, thus-yes, byte)
+returns-2 c = checks-late _ _ (λ k. search byte) (search thus-yes) (search thus-yes)
 
 kept-requires : tie.Need-kept-requires
 kept-requires c κs = search (state-fit, thus-yes)
