@@ -2,12 +2,14 @@
 //! CNPJ or CPF no check digit is worked out: the number is summed up as it is
 //! written. The wrong byte of a field is found by counting its digits. The totals
 //! of the blocks are added up from the rows' counts. What 9900 lines state is held to
-//! the codes as they are written.
+//! the codes as they are written. Periods are cut out of the lines as one text, and
+//! sought among those of all lines before at once.
 
 use crate::rows::{rows, Counts, BLOCKS};
 use crate::totals::Totals;
 use crate::CheckedNumber::{self, Cnpj, Cpf};
 use crate::{BAR, LF};
+use std::collections::{BTreeMap, BTreeSet};
 
 pub fn is_right_in_another_way(checked: CheckedNumber, text: &[u8]) -> bool {
     let size = match checked {
@@ -73,4 +75,53 @@ pub fn statements_are_true_in_another_way(bytes: &[u8]) -> bool {
 fn is_number_in_another_way(digits: &[u8], number: usize) -> bool {
     let again = format!("{number:0width$}", width = digits.len());
     !digits.is_empty() && digits == again.as_bytes()
+}
+
+/// The codes whose lines have a period, each with the bars that stand around it:
+/// the one before the first date and the one after the later.
+const PERIODS: [(&[u8], usize, usize); 12] = [
+    (b"E300", 2, 4),
+    (b"E500", 2, 4),
+    (b"F020", 3, 5),
+    (b"F200", 3, 5),
+    (b"F250", 3, 5),
+    (b"G020", 3, 5),
+    (b"H020", 3, 4),
+    (b"8020", 3, 5),
+    (b"8100", 3, 5),
+    (b"8160", 3, 5),
+    (b"8300", 3, 5),
+    (b"8500", 3, 5),
+];
+
+/// Number, lines before, field and bytes of the first line whose period its code
+/// has had before, or would be the 65th it has. The last line may be cut off.
+pub fn period_refusal_in_another_way(bytes: &[u8]) -> Option<(u8, u64, u64, u64)> {
+    let mut seen: BTreeMap<&[u8], BTreeSet<&[u8]>> = BTreeMap::new();
+    let mut start = 0;
+    for (lines, line) in bytes.split_inclusive(|&byte| byte == LF).enumerate() {
+        if let Some((code, text, bar)) = text_of_period(line) {
+            let seen = seen.entry(code).or_default();
+            let field = line[..bar].iter().filter(|&&byte| byte == BAR).count() as u64;
+            let end = (start + bar + 1) as u64;
+            let refused = |number: u8| Some((number, lines as u64, field, end));
+            if !seen.insert(text) {
+                return refused(20);
+            }
+            if seen.len() > 64 {
+                return refused(21);
+            }
+        }
+        start += line.len();
+    }
+    None
+}
+
+/// Code and dates, a bar between them as it stands, and where the bar after them is.
+fn text_of_period(line: &[u8]) -> Option<(&[u8], &[u8], usize)> {
+    let code = line.get(1..5)?;
+    let &(_, before, after) = PERIODS.iter().find(|period| period.0 == code)?;
+    let bars: Vec<usize> = (0..line.len()).filter(|&place| line[place] == BAR).collect();
+    let (&before, &after) = (bars.get(before - 1)?, bars.get(after - 1)?);
+    Some((code, &line[before + 1..after], after))
 }

@@ -14,6 +14,7 @@ mod date;
 pub mod generate;
 pub mod kinds;
 mod lines;
+pub mod periods;
 mod place;
 pub mod rows;
 mod rules;

@@ -46,6 +46,8 @@ pub struct Row {
     pub level: usize,
     /// How many may stand under one parent line; none means any number.
     pub limit: Option<usize>,
+    /// Whether it is marked P: "1/período" or "1/data".
+    pub marked_p: bool,
     /// Its parent row, for rows of level 2 or more.
     pub parent: Option<usize>,
 }
@@ -109,7 +111,7 @@ fn read_row(entry: &str) -> Row {
         (number, _) => Some(number.parse().unwrap()),
     };
     let fields = parts[0].parse().unwrap();
-    Row { code: code.to_string(), fields, level, limit, parent: None }
+    Row { code: code.to_string(), fields, level, limit, marked_p: parts[2] == "P", parent: None }
 }
 
 /// "The last row above it, in the same block, whose level is one less."
@@ -187,6 +189,19 @@ mod tests {
             ("8590", 1),
         ];
         assert!(limited.eq(wanted));
+    }
+
+    /// Looked up in 2.6.1 by hand: all with "1/período", and H020 with "1/data".
+    #[test]
+    fn rows_marked_p() {
+        let marked = |level: usize| -> Vec<&str> {
+            let of_level = rows().iter().filter(|row| row.marked_p && row.level == level);
+            of_level.map(|row| row.code.as_str()).collect()
+        };
+        let at_level_2 = "E300 E500 F020 F200 F250 G020 H020 8020 8100 8160 8300 8500";
+        assert_eq!(marked(2).join(" "), at_level_2);
+        assert_eq!(marked(3).join(" "), "E340 E540 G420 8165");
+        assert_eq!(rows().iter().filter(|row| row.marked_p).count(), 16);
     }
 
     #[test]

@@ -1,10 +1,12 @@
 //! All rules a byte can break, in the order of their numbers. Of those that
-//! speak of the bar after a field, request h puts 24 after 12 and request f 23
-//! after 13. Request e has 2 and 10 say which byte of the field it is.
+//! speak of the bar after a field, request h puts 24 after 12, request b 20 and
+//! 21 after both, and request f 23 after 13. Request e has 2 and 10 say which
+//! byte of the field it is.
 
 use crate::content::{
     first_wrong_byte, untrue_count, wrong_characters, wrong_check_digit, wrong_size, wrong_value,
 };
+use crate::periods::{one_period_too_many, period_seen_before};
 use crate::place::{against_opening, one_too_many, out_of_place, unknown_code};
 use crate::shape::{bad_line_end, control_byte, field_too_many, fields_missing, no_first_bar};
 use crate::spot::Spot;
@@ -12,7 +14,7 @@ use crate::stated::untrue_statement;
 
 type Rule = fn(&Spot) -> Option<usize>;
 
-const RULES: [(u8, Rule); 15] = [
+const RULES: [(u8, Rule); 17] = [
     (1, no_first_bar),
     (2, control_byte),
     (3, unknown_code),
@@ -28,6 +30,8 @@ const RULES: [(u8, Rule); 15] = [
     (13, untrue_count),
     (23, untrue_statement),
     (24, wrong_check_digit),
+    (20, period_seen_before),
+    (21, one_period_too_many),
 ];
 
 /// A rule that a byte breaks, and the place it names.

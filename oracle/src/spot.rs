@@ -29,13 +29,15 @@ impl<'a> LineAtHand<'a> {
         // bytes up to the second bar are judged before the row is known
         let row = if field >= 2 { self.row } else { None };
         let text = &self.bytes[start..offset];
-        Spot { before, byte: self.bytes[offset], field, text, row }
+        Spot { before, byte: self.bytes[offset], line: &self.bytes[..offset], field, text, row }
     }
 }
 
 pub struct Spot<'a> {
     pub before: &'a Lines<'a>,
     pub byte: u8,
+    /// What stands in its line before the byte.
+    pub line: &'a [u8],
     /// Bars before the byte in its line: the number of the field it is in or ends.
     pub field: usize,
     /// Bytes between the last of these bars and the byte.

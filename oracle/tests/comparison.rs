@@ -9,7 +9,7 @@ const STAND_IN: &str = env!("CARGO_BIN_EXE_stand-in");
 
 /// Enough cases for all files that come first: the known ones, those of each
 /// kind and those with some 990 lines of a row.
-const SHORT_RUN: &str = "720";
+const SHORT_RUN: &str = "1020";
 
 /// Faults of the process, which no answer alone shows.
 const OF_PROCESS: [&str; 6] =
@@ -114,7 +114,7 @@ fn every_fault_is_caught() {
     let names: Vec<&str> = lines.iter().map(|line| line[0]).collect();
     let faults = faults();
     assert!(names.iter().chain(&OF_PROCESS).eq(&faults));
-    assert_eq!(faults.len(), 249);
+    assert_eq!(faults.len(), 355);
     for line in lines {
         let [name, _, differing, beside] = line[..] else { panic!("{line:?}") };
         assert_ne!(differing, "0", "{name}");
@@ -149,6 +149,10 @@ fn faults_are_caught_with_other_seeds() {
         ("stated-wraps-64", "17"),
         ("8545-only-one", "18"),
         ("23-at-lf", "19"),
+        ("period-by-sum", "20"),
+        ("65th-period-stands", "21"),
+        ("periods-forgotten-at-cut", "22"),
+        ("20-at-lf", "23"),
     ] {
         assert_caught(fault, &["--cases", SHORT_RUN, "--seed", seed]);
     }
@@ -159,7 +163,7 @@ fn faults_are_caught_with_other_seeds() {
 #[test]
 fn kinds_that_do_not_come_up_are_named() {
     let program = format!("{STAND_IN} any-volume");
-    let output = compare(&program, &kept("any-volume-named"), &["--cases", "720"]);
+    let output = compare(&program, &kept("any-volume-named"), &["--cases", SHORT_RUN]);
     assert_eq!(output.status.code(), Some(1));
     let text = text(&output);
     assert!(text.contains("FAILURE: N with 3 decimals never refused by 10"), "{text}");
@@ -170,7 +174,7 @@ fn kinds_that_do_not_come_up_are_named() {
 fn check_digits_that_are_never_refused_are_named() {
     for (fault, named) in [("any-check-digits", "cnpj"), ("any-check-digits-in-cpf", "cpf")] {
         let program = format!("{STAND_IN} {fault}");
-        let output = compare(&program, &kept(&format!("{fault}-named")), &["--cases", "720"]);
+        let output = compare(&program, &kept(&format!("{fault}-named")), &["--cases", SHORT_RUN]);
         assert_eq!(output.status.code(), Some(1));
         let text = text(&output);
         assert!(text.contains(&format!("FAILURE: {named} never refused by 24")), "{text}");
@@ -183,7 +187,7 @@ fn check_digits_that_are_never_refused_are_named() {
 fn kept_cases_show_the_fault() {
     let keep = kept("shown");
     let program = format!("{STAND_IN} wraps-32");
-    let output = compare(&program, &keep, &["--cases", "720"]);
+    let output = compare(&program, &keep, &["--cases", SHORT_RUN]);
     let text = text(&output);
     for part in
         ["DIFFERENCE in case", "seed of the case", "  >> ", "P ", "expected: refused 13", "got: "]
@@ -237,7 +241,7 @@ fn stored(seed_and_count: [&str; 2], keep: &Path, name: &str) -> (PathBuf, Vec<u
 }
 
 fn assert_all_numbers(answers: &str) {
-    for number in (1..=15).chain([17, 18, 23, 24]) {
+    for number in (1..=15).chain([17, 18, 20, 21, 23, 24]) {
         assert!(answers.contains(&format!("\nrefused {number} ")), "{number}");
     }
     assert!(answers.contains("\naccepted "));
@@ -300,6 +304,43 @@ fn the_kept_batch_shows_the_faults_in_statements() {
         "stated-code-lost-at-cut",
         "counts-9999-after-23",
         "block-8-unknown",
+    ] {
+        assert_ne!(fed(&[fault], &commands), answers, "{fault}");
+    }
+}
+
+/// And these in periods.
+#[test]
+fn the_kept_batch_shows_the_faults_in_periods() {
+    let (commands, answers) = stored(["11", "200"], &kept("stored-periods"), "batch");
+    for fault in [
+        "no-20",
+        "no-21",
+        "64th-period-refused",
+        "65th-period-stands",
+        "21-before-20",
+        "last-period-only",
+        "periods-of-all-rows-together",
+        "no-dates-differ",
+        "e500-by-fields-3-and-4",
+        "h020-by-fields-2-and-3",
+        "field-2-is-of-period",
+        "period-of-0000-counts",
+        "periods-of-e340",
+        "periods-forgotten-at-cut",
+        "64-periods-in-a-piece",
+        "period-before-itself-at-cut",
+        "period-by-first-date",
+        "period-by-later-date",
+        "dates-sought-apart",
+        "swapped-dates-are-the-same",
+        "dates-joined",
+        "20-names-first-date",
+        "20-at-lf",
+        "20-at-first-date",
+        "20-does-not-hold",
+        "21-does-not-hold",
+        "counts-line-refused-by-20",
     ] {
         assert_ne!(fed(&[fault], &commands), answers, "{fault}");
     }

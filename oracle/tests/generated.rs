@@ -19,7 +19,8 @@ fn every_refusal_in_a_few_hundred_small_cases() {
             .map(|seed| refusal_number(finish(&small_case(start * 1_000_000 + seed).bytes)))
             .collect();
         let seen: BTreeSet<u8> = numbers.iter().copied().collect();
-        assert_eq!(seen, (0..=15).chain([23, 24]).collect(), "seeds from {start} million");
+        // 65 periods take more bytes than that
+        assert_eq!(seen, (0..=15).chain([20, 23, 24]).collect(), "seeds from {start} million");
         let good = numbers.iter().filter(|&&number| number == 0).count();
         // a third on the whole, so that 160 is passed now and then
         assert!((80..=200).contains(&good), "{good} of 400 accepted");

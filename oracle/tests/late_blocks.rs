@@ -9,10 +9,17 @@ fn fields(code: &str) -> usize {
     rows().iter().find(|row| row.code == code).expect("a known code").fields
 }
 
-/// Base up to the opening of this block, then bare lines of these codes.
+/// Base up to the opening of this block, then lines of these codes: bare but for
+/// the last of 4 fields, which is a date in rows with periods, so that each line
+/// has its own.
 fn with_codes(block: &str, codes: &[&str]) -> Vec<u8> {
     let mut lines = upto_block(block);
-    lines.extend(codes.iter().map(|code| bare(code, fields(code))));
+    for (place, code) in codes.iter().enumerate() {
+        lines.push(match *code {
+            "8020" | "8100" | "8160" | "8300" | "8500" => format!("|{code}|||010120{place:02}|"),
+            _ => bare(code, fields(code)),
+        });
+    }
     written(&lines)
 }
 

@@ -309,9 +309,10 @@ fn a_quantity_is_no_count() {
 }
 
 #[test]
-fn p_is_any_number_at_level_2_and_one_at_level_3() {
+fn p_is_any_period_at_level_2_and_one_at_level_3() {
     let mut lines = upto_block("E");
-    lines.extend([bare("E300", 3), bare("E340", 24), bare("E300", 3), bare("E340", 24)]);
+    let january = "|E300|01012012|31012012|".to_string();
+    lines.extend([bare("E300", 3), bare("E340", 24), january, bare("E340", 24)]);
     open(&written(&lines), 8);
     lines.extend([bare("E305", 23), bare("E340", 24)]);
     refused(&written(&lines), 6, 10, 1);

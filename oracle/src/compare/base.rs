@@ -1,5 +1,7 @@
 //! Base, the document's example file, and files with one thing changed in it.
 
+use crate::generate::periods::numbered_dates;
+use crate::periods::period_fields;
 use crate::rows::{row_with_code, rows};
 
 pub const BASE: [&str; 6] = [
@@ -26,6 +28,8 @@ pub enum Feed {
     ThroughLines,
     /// Cut at every byte of its 9900 lines and of 9999.
     ThroughStatements,
+    /// Cut at every byte of the last line with a period.
+    ThroughPeriods,
 }
 
 /// A file fed in a case, and what it is about.
@@ -72,13 +76,29 @@ pub fn bare(code: &str) -> String {
     format!("|{code}{}", "|".repeat(rows()[row].fields))
 }
 
+/// The same after these lines: where one of them has the code already, and its
+/// row one line for a period, with dates of its own.
+pub fn bare_after(before: &[String], code: &str) -> String {
+    let row = row_with_code(code.as_bytes()).expect("a known code");
+    let start = format!("|{code}|");
+    let lines = before.iter().filter(|line| line.starts_with(&start)).count();
+    let mut fields = vec![Vec::new(); rows()[row].fields + 1];
+    fields[0] = code.as_bytes().to_vec();
+    let numbers = period_fields(row).iter().filter(|_| lines > 0);
+    for (number, date) in numbers.zip(numbered_dates(lines, period_fields(row).len())) {
+        fields[number - 1] = date;
+    }
+    format!("|{}", String::from_utf8(fields.join(&b'|')).expect("digits and bars"))
+}
+
 /// The opening of a block with this mark; that of block 8 has a field more.
 pub fn opening(block: char, mark: &str) -> String {
     let row = row_with_code(format!("{block}001").as_bytes()).expect("a known block");
     format!("|{block}001|{mark}{}", "|".repeat(rows()[row].fields - 1))
 }
 
-/// A file that ends after these lines of a block, its opening saying 0.
+/// A file that ends after these lines of a block, its opening saying 0. They are
+/// bare but for periods.
 pub fn block_start(codes: &[&str]) -> Vec<u8> {
     let block = codes[0].chars().next().expect("a code");
     let mut lines = vec![BASE[0].to_string()];
@@ -86,7 +106,9 @@ pub fn block_start(codes: &[&str]) -> Vec<u8> {
         lines.extend([BASE[1].to_string(), BASE[2].to_string()]);
     }
     lines.push(opening(block, "0"));
-    lines.extend(codes.iter().map(|code| bare(code)));
+    for code in codes {
+        lines.push(bare_after(&lines, code));
+    }
     written(&lines)
 }
 
@@ -109,6 +131,18 @@ mod tests {
         assert_eq!(finish(&base()), Final::Accepted { lines: 6, bytes: 110 });
         assert_eq!(base_field(3, 2, b"3"), base());
         assert_eq!(base_with(2, b"|0001|1|\r\n"), base());
+    }
+
+    #[test]
+    fn bare_lines_with_periods() {
+        let mut lines = vec!["|E300|||".to_string()];
+        assert_eq!(bare_after(&[], "E300"), lines[0]);
+        lines.push(bare_after(&lines, "E300"));
+        assert_eq!(lines[1], "|E300|01021990||");
+        assert_eq!(bare_after(&lines, "E300"), "|E300|01031990|28031990|");
+        assert_eq!(bare_after(&lines, "E340"), bare("E340"));
+        let h020 = [bare("H020")];
+        assert_eq!(bare_after(&h020, "H020"), "|H020||28021990||||||||||");
     }
 
     #[test]

@@ -4,15 +4,16 @@ use super::base::{Feed, File};
 use super::chance::{chance_file, small_file};
 use super::command::Command;
 use super::cuts::{
-    cut_file, cut_simply, cut_through_field, cut_through_lines, cut_through_statements,
+    cut_file, cut_simply, cut_through_field, cut_through_lines, cut_through_periods,
+    cut_through_statements,
 };
 use super::feed::commands;
 use super::sweep::Swept;
 use crate::generate::Random;
 
-/// The longest of the swept files in a stored run; one with all blocks, of no
-/// two as many lines, takes as much.
-const SMALL_FILE: usize = 500;
+/// The longest of the swept files in a stored run; one with 65 periods of a row
+/// takes as much.
+const SMALL_FILE: usize = 1_500;
 
 pub struct Case {
     pub number: usize,
@@ -112,6 +113,7 @@ fn made_case(number: usize, seed: u64, file: File, mut random: Random, simple: b
         (Feed::ThroughField, _) => cut_through_field(&file.bytes),
         (Feed::ThroughLines, _) => cut_through_lines(&file.bytes),
         (Feed::ThroughStatements, _) => cut_through_statements(&file.bytes),
+        (Feed::ThroughPeriods, _) => cut_through_periods(&file.bytes),
         (_, true) => cut_simply(&mut random, &file.bytes),
         (_, false) => cut_file(&mut random, &file.bytes),
     };
@@ -214,6 +216,7 @@ mod tests {
             "cut through the field",
             "cut through the lines",
             "cut through the statements",
+            "cut through the periods",
         ];
         let texts: Vec<String> = cases().map(|case| case.about).collect();
         for way in ways {

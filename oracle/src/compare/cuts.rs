@@ -3,8 +3,11 @@
 
 use super::command::LONGEST_PIECE;
 use crate::generate::{pieces, Random};
+use crate::periods::period_fields;
+use crate::rows::row_with_code;
 use crate::{verdict, Verdict, BAR, CR, LF};
 use std::collections::BTreeSet;
+use std::ops::Range;
 
 pub type Pieces = Vec<Vec<u8>>;
 
@@ -26,6 +29,9 @@ pub fn cut_file(random: &mut Random, bytes: &[u8]) -> (&'static str, Vec<Pieces>
     let chance = random.below(100);
     if has_statement(bytes) && bytes.len() <= OF_FEW_LINES && random.percent(10) {
         return cut_through_statements(bytes);
+    }
+    if bytes.len() <= OF_FEW_LINES && random.percent(10) && last_period(bytes).is_some() {
+        return cut_through_periods(bytes);
     }
     match (bytes.len() <= SHORT, chance) {
         (true, 0..=29) => ("one byte pieces", vec![one_byte_pieces(bytes)]),
@@ -122,6 +128,45 @@ fn places_in_statements(bytes: &[u8]) -> Vec<usize> {
     places.into_iter().step_by(step).collect()
 }
 
+/// The last line with a period, as far as it is judged and two bytes further, cut
+/// at every byte: in one round all at once, with cuts at the ends of some such
+/// lines before, then in one for each.
+pub fn cut_through_periods(bytes: &[u8]) -> (&'static str, Vec<Pieces>) {
+    let Some(last) = last_period(bytes) else {
+        return ("cut through the periods", vec![cut_at(bytes, &[])]);
+    };
+    let before: Vec<Range<usize>> =
+        lines_with_periods(bytes).filter(|line| line.end <= last.start).collect();
+    let some = &before[before.len().saturating_sub(3)..];
+    // before and after the CR, and after the LF
+    let ends = some.iter().flat_map(|line| line.end - 2..=line.end);
+    let all: BTreeSet<usize> = ends.chain(last.clone()).collect();
+    let mut rounds = vec![cut_at(bytes, &all.into_iter().collect::<Vec<usize>>())];
+    rounds.extend(last.map(|place| cut_at(bytes, &[place])));
+    ("cut through the periods", rounds)
+}
+
+fn last_period(bytes: &[u8]) -> Option<Range<usize>> {
+    let (judged, last) = (bytes_judged(bytes), lines_with_periods(bytes).last()?);
+    Some(last.start..(judged + 2).min(last.end) + 1)
+}
+
+/// Where those lines begin and end whose row has a line for each period, those
+/// after a refusal left out.
+fn lines_with_periods(bytes: &[u8]) -> impl Iterator<Item = Range<usize>> + '_ {
+    let judged = bytes_judged(bytes);
+    let mut start = 0;
+    let ranges = bytes.split_inclusive(|&byte| byte == LF).map(move |line| {
+        let end = start + line.len();
+        std::mem::replace(&mut start, end)..end
+    });
+    let has_period = |line: &[u8]| {
+        let row = line.get(1..5).filter(|_| line.get(5) == Some(&BAR)).and_then(row_with_code);
+        row.is_some_and(|row| !period_fields(row).is_empty())
+    };
+    ranges.filter(move |range| range.start < judged && has_period(&bytes[range.clone()]))
+}
+
 /// In one piece if it is short enough; no bytes are no piece or an empty one.
 fn whole(random: &mut Random, bytes: &[u8]) -> Pieces {
     if bytes.is_empty() && random.percent(50) {
@@ -206,6 +251,7 @@ fn bytes_judged(bytes: &[u8]) -> usize {
 #[cfg(test)]
 mod tests {
     use super::*;
+    use crate::compare::base::{written, BASE};
     use crate::generate::case;
 
     #[test]
@@ -219,6 +265,7 @@ mod tests {
                 cut_through_field(&bytes),
                 cut_through_lines(&bytes),
                 cut_through_statements(&bytes),
+                cut_through_periods(&bytes),
             ] {
                 assert!(!rounds.is_empty());
                 for pieces in rounds {
@@ -259,6 +306,22 @@ mod tests {
         let places = places_in_statements(bytes);
         assert_eq!(places, (10..=21).chain(31..=39).collect::<Vec<usize>>());
         assert!(places_in_statements(&bytes[10..21].repeat(100)).len() <= MOST_ROUNDS);
+    }
+
+    /// From the line's first byte to two after the bar that decides, or its end.
+    #[test]
+    fn every_byte_of_a_period() {
+        let start = written(&[&BASE[..3], &["|E001|0|", "|E300|01012012||"]].concat());
+        for (line, cuts) in [("|E300|01012012||", 18), ("|E300|01022012||", 18), ("|E300|x|", 10)] {
+            let bytes = [&start[..], line.as_bytes(), b"\r\n|E990|4|\r\n"].concat();
+            let (_, rounds) = cut_through_periods(&bytes);
+            assert_eq!(rounds.len(), cuts + 2, "{line}");
+            // and before and after the CR of the line before
+            assert_eq!(rounds[0].len(), cuts + 2 + 2, "{line}");
+            assert_eq!(rounds[1][0].len(), start.len());
+            assert_eq!(rounds[cuts + 1][0].len(), start.len() + cuts);
+        }
+        assert_eq!(cut_through_periods(b"|0000|").1, [[b"|0000|"]]);
     }
 
     #[test]

@@ -1,9 +1,10 @@
-//! The document's own list of cases, those of requests h, e, g and f, and cases
+//! The document's own list of cases, those of requests h, e, g, f and b, and cases
 //! of the rules they leave out.
 
 use super::base::{
     base, base_field, base_until, base_with, block_start, block_start_with, file, written, File, BASE,
 };
+use super::known_periods::{first_periods, other_periods};
 use super::known_positions::known_positions;
 use super::known_statements::{first_statements, other_statements};
 use super::known_totals::known_totals;
@@ -15,11 +16,13 @@ pub fn known_files() -> Vec<File> {
         whole_files(),
         known_totals(),
         first_statements(),
+        first_periods(),
         second_lines(),
         field_values(),
         rows_in_place(),
         other_rules(),
         other_statements(),
+        other_periods(),
         amounts_and_dates(),
         numbers_with_check_digits(),
         other_fields_with_check_digits(),

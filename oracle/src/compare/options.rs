@@ -2,7 +2,7 @@
 
 use std::path::PathBuf;
 
-pub const DEFAULT_CASES: usize = 55_000;
+pub const DEFAULT_CASES: usize = 58_500;
 
 #[derive(Debug, PartialEq, Eq)]
 pub struct Options {

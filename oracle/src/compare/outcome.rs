@@ -3,7 +3,8 @@
 use super::kind_tally::KindTally;
 
 /// Every refusal number that some case must end with.
-const NUMBERS: [usize; 17] = [1, 2, 3, 4, 5, 6, 7, 8, 9, 10, 11, 12, 13, 14, 15, 23, 24];
+const NUMBERS: [usize; 19] =
+    [1, 2, 3, 4, 5, 6, 7, 8, 9, 10, 11, 12, 13, 14, 15, 20, 21, 23, 24];
 
 #[derive(Default)]
 pub struct Outcome {

@@ -11,6 +11,7 @@ use super::sweep_counts::count_files;
 use super::sweep_fields::field_files;
 use super::sweep_kinds::kind_files;
 use super::sweep_pairs::pair_files;
+use super::sweep_periods::period_files;
 use super::sweep_places::place_files;
 use super::sweep_positions::position_files;
 use super::sweep_rows::row_files;
@@ -64,6 +65,7 @@ fn other_files(random: &mut Random) -> Vec<File> {
         check_digit_files(),
         count_files(random),
         statement_files(random),
+        period_files(random),
         place_files(random),
         long_files(),
         byte_files(),
@@ -82,6 +84,7 @@ fn other_files(random: &mut Random) -> Vec<File> {
 mod tests {
     use super::*;
     use crate::kinds::kind;
+    use crate::periods::period_fields;
     use crate::rows::{row_with_code, rows, ROWS};
     use crate::{counts, finish, Final};
     use std::collections::BTreeSet;
@@ -116,6 +119,9 @@ mod tests {
         // deeper rows have no open parent right after an opening: 4 goes first
         wanted.extend((row.level == 2 || row.is_closing()).then_some((5, place, 1)));
         wanted.extend((row.is_data() && row.limit.is_some()).then_some((6, place, 1)));
+        if let Some(&later) = period_fields(place).iter().max() {
+            wanted.extend([20, 21].map(|number| (number, place, later as u64)));
+        }
         for field in 2..=fields {
             let kind = kind(place, field as usize);
             let numbers = (10..=13).chain([24]).filter(|&number| kind.can_be_refused_by(number));

@@ -1,7 +1,7 @@
 //! Every row right after every row: a line of the one, reached in the
 //! shortest way, then a line of the other.
 
-use super::base::{bare, file, opening, written, Feed, File, BASE};
+use super::base::{bare, bare_after, file, opening, written, Feed, File, BASE};
 use crate::generate::tree::path_to;
 use crate::rows::{rows, Row};
 
@@ -60,7 +60,7 @@ fn line_after(before: &[String], row: &Row) -> String {
         "9999" => format!("|9999|{}|", before.len() + 1),
         code if row.is_closing() => format!("|{code}|{}|", in_block + 1),
         _ if row.is_opening() => opening(row.block() as char, "1"),
-        code => bare(code),
+        code => bare_after(before, code),
     }
 }
 

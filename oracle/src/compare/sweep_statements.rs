@@ -108,9 +108,9 @@ fn writing_files() -> Vec<File> {
 
 /// More lines of a row than 8 bits hold.
 fn many_lines() -> Vec<File> {
-    let lines = [&["E001"][..], &["E300"; 300], &["E990"]].concat();
+    let lines = [&["E001"][..], &["E003"; 300], &["E990"]].concat();
     let with = |number: &str| {
-        let bytes = stating(&lines, &[("E300", number)]).write();
+        let bytes = stating(&lines, &[("E003", number)]).write();
         file(format!("300 lines stated as {number}"), bytes)
     };
     ["300", "44", "255", "299", "301", "0300", "65836"].map(with).to_vec()

@@ -16,6 +16,9 @@ pub fn lines_disturbed(random: &mut Random, room: usize) -> Vec<u8> {
     if random.percent(30) {
         draft.mend_openings();
     }
+    if random.percent(50) {
+        draft.mend_periods();
+    }
     draft.write()
 }
 

@@ -2,7 +2,8 @@
 
 use super::random::Random;
 use super::{
-    content_cases, count_cases, edit_cases, line_cases, place_cases, shape_cases, stated_cases, tree,
+    content_cases, count_cases, edit_cases, line_cases, period_cases, place_cases, shape_cases,
+    stated_cases, tree,
 };
 
 /// Files up to this many bytes are made in the small way.
@@ -16,7 +17,7 @@ pub struct Case {
 type Family = fn(&mut Random, usize) -> Vec<u8>;
 
 /// Weight, name and maker of each family.
-const MIX: [(usize, &str, Family); 37] = [
+const MIX: [(usize, &str, Family); 40] = [
     (18, "good", good),
     (4, "all bytes", edit_cases::all_bytes),
     (4, "zeros everywhere", count_cases::zeros_everywhere),
@@ -47,6 +48,9 @@ const MIX: [(usize, &str, Family); 37] = [
     (9, "stated", stated_cases::stated),
     (3, "stated before lines changed", stated_cases::stated_before_lines_changed),
     (4, "all codes stated", stated_cases::all_codes_stated),
+    (9, "several periods", period_cases::several_periods),
+    (3, "many periods", period_cases::many_periods),
+    (4, "shared periods", period_cases::shared_periods),
     (8, "lines disturbed", line_cases::lines_disturbed),
     (10, "bytes edited", edit_cases::bytes_edited),
     (4, "truncated", edit_cases::truncated),

@@ -13,6 +13,8 @@ mod edit_cases;
 pub(crate) mod fill;
 mod line_cases;
 mod mix;
+mod period_cases;
+pub(crate) mod periods;
 mod pieces;
 pub(crate) mod place_cases;
 mod random;

@@ -32,9 +32,11 @@ pub fn block_file(random: &mut Random, codes: &[&str]) -> Draft {
     bare_file(random, &all)
 }
 
-/// A file of lines of these codes and no others, marks and counts as they must be.
+/// A file of lines of these codes and no others, marks and counts as they must be,
+/// and dates where two lines would have the same period.
 pub fn bare_file(random: &mut Random, codes: &[&str]) -> Draft {
     let mut draft = Draft { lines: bare_lines(random, codes) };
+    draft.mend_periods();
     draft.mend_openings();
     draft.mend_counts();
     draft
@@ -70,6 +72,9 @@ pub fn stray_line(random: &mut Random, room: usize) -> Vec<u8> {
     draft.lines.insert(place, good_line(random, row, BARE));
     if random.percent(50) {
         draft.mend_openings();
+    }
+    if random.percent(80) {
+        draft.mend_periods();
     }
     draft.mend_counts();
     draft.write()
@@ -171,6 +176,7 @@ pub fn one_more(random: &mut Random, room: usize) -> Vec<u8> {
     if rows()[parent].is_data() && random.percent(50) {
         draft.lines.insert(place + 1, good_line(random, parent, BARE));
     }
+    draft.mend_periods();
     draft.mend_counts();
     draft.write()
 }
@@ -184,6 +190,7 @@ pub fn row_repeated(random: &mut Random, _room: usize) -> Vec<u8> {
     for _ in 0..*random.pick(&[1, 2, 2, 2, 3]) {
         draft.lines.insert(place, good_line(random, row, BARE));
     }
+    draft.mend_periods();
     draft.mend_counts();
     draft.write()
 }

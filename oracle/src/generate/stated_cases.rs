@@ -27,6 +27,7 @@ pub fn stated_before_lines_changed(random: &mut Random, room: usize) -> Vec<u8> 
         true => draft.lines.insert(place, draft.lines[place].clone()),
         false => drop(draft.lines.remove(place)),
     }
+    draft.mend_periods();
     draft.mend_openings();
     draft.mend_counts();
     let numbers = stated.places_of(b"9900");

@@ -3,7 +3,9 @@
 
 use super::draft::Draft;
 use super::fill::{good_line, Fullness};
+use super::periods::{dates_of, new_dates, set_dates};
 use super::random::Random;
+use crate::periods::{period_fields, MOST_PERIODS};
 use crate::rows::{row_with_code, rows, BLOCKS};
 
 /// A good file with a line of some row, of about `room` bytes at most.
@@ -61,6 +63,12 @@ pub fn children_of(row: usize) -> Vec<usize> {
     (0..rows().len()).filter(|&child| rows()[child].parent == Some(row)).collect()
 }
 
+/// How many lines of the row may stand under one parent line.
+fn most_lines(row: usize) -> Option<usize> {
+    let has_periods = !period_fields(row).is_empty();
+    rows()[row].limit.or(has_periods.then_some(MOST_PERIODS))
+}
+
 struct Tree {
     draft: Draft,
     fullness: Fullness,
@@ -70,9 +78,21 @@ struct Tree {
 
 impl Tree {
     fn add(&mut self, random: &mut Random, row: usize) {
-        let line = good_line(random, row, self.fullness);
-        self.used += line.write().len();
-        self.draft.lines.push(line);
+        self.draft.lines.push(good_line(random, row, self.fullness));
+        self.part_period(random);
+        self.used += self.draft.lines.last().expect("the new line").write().len();
+    }
+
+    /// The dates of the last line are others than those of its row before.
+    fn part_period(&mut self, random: &mut Random) {
+        let place = self.draft.lines.len() - 1;
+        let Some(dates) = dates_of(&self.draft.lines[place]) else {
+            return;
+        };
+        let taken = self.draft.dates_before(place);
+        if taken.contains(&dates) {
+            set_dates(&mut self.draft.lines[place], &new_dates(random, &taken));
+        }
     }
 
     /// Room for more lines than those that must come; 100 bytes are for these.
@@ -119,7 +139,7 @@ impl Tree {
             let on_path = place == path_place && !path.is_empty();
             let later_on_path = path.first() == Some(&child) && place < path_place;
             let taken = seen.iter().filter(|&&other| other == child).count() + usize::from(later_on_path);
-            let full = rows()[child].limit.is_some_and(|limit| taken >= limit);
+            let full = most_lines(child).is_some_and(|limit| taken >= limit);
             if on_path || (!full && self.has_room()) {
                 seen.push(child);
                 self.grow(random, child, if on_path { &path[1..] } else { &[] });

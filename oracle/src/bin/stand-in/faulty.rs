@@ -90,6 +90,7 @@ impl Faulty {
     /// What it makes of an answer.
     fn told(&self, answer: Answer, is_finish: bool) -> Answer {
         let said = (self.fault.says)(&self.all, answer);
+        let said = (self.fault.says_of_pieces)(&self.all, &self.pieces, said);
         with_position(self.fault.position, &self.all, &self.pieces, said, is_finish)
     }
 
