@@ -17,6 +17,10 @@ static uint64_t seed;
 static uint64_t bytes_written, lines_written, lines_before_block;
 static unsigned participants, items, documents, item_number;
 
+#define PERIODS 4
+static unsigned period; /* of the month, from 0 on: see in_periods() */
+static uint64_t room;   /* for bytes of this period and those to come: see fill_period() */
+
 #define CODE_SIZE 4
 #define MOST_CODES 200
 
@@ -127,6 +131,19 @@ static void put_date(void)
     put("012012");
 }
 
+/* The periods are weeks, the last of which goes on to the month's end. */
+static void put_first_day(void)
+{
+    put_number(7 * period + 1, 2);
+    put("012012");
+}
+
+static void put_last_day(void)
+{
+    put_number(period < PERIODS - 1 ? 7 * period + 7 : 31, 2);
+    put("012012");
+}
+
 /* Names are in ISO 8859-1, as the files are. */
 static void put_person(void)
 {
@@ -229,6 +246,8 @@ static bool number_content(char letter)
     case 'j': put_digits(5); return true;
     case 'p': put_code("P", participants, 6); return true;
     case 'q': put_digits(9); return true;
+    case 'u': put_first_day(); return true;
+    case 'v': put_last_day(); return true;
     case 'x': put_checked(9, 11); return true;
     case 'z': put("0,000"); return true;
     default: return false;
@@ -338,6 +357,29 @@ static void some_times(unsigned least, unsigned most, void (*group)(void))
         group();
 }
 
+/*
+ * The period's share of what the month has, so that the periods have together
+ * about as much. Chance rounds it up or down; but up in the first, or what the
+ * month has only few of could be missing from the file.
+ */
+static unsigned share(unsigned least, unsigned most)
+{
+    unsigned more = period == 0 ? PERIODS - 1 : below(PERIODS);
+    return (between(least, most) + more) / PERIODS;
+}
+
+static void shared(unsigned least, unsigned most, const char *pattern)
+{
+    for (unsigned left = share(least, most); left > 0; left--)
+        line(pattern);
+}
+
+static void shared_times(unsigned least, unsigned most, void (*group)(void))
+{
+    for (unsigned left = share(least, most); left > 0; left--)
+        group();
+}
+
 static void perhaps(unsigned chance, const char *pattern)
 {
     if (tenths(chance))
@@ -411,6 +453,34 @@ static void fill(uint64_t end, void (*group)(void))
 static uint64_t part(unsigned hundredths, uint64_t end)
 {
     return bytes_written < end ? bytes_written + (end - bytes_written) * hundredths / 100 : end;
+}
+
+/*
+ * Twelve rows have one line for each period (or day: H020), so no two of their
+ * lines may have the same dates, nor may a row have more than 64 of them,
+ * however long the file is. So each of these rows has a line for each of the
+ * month's periods and no more, and it is what depends on them that grows with
+ * the file.
+ */
+static void in_periods(void (*group)(void))
+{
+    for (period = 0; period < PERIODS; period++)
+        group();
+}
+
+static void fill_in_periods(uint64_t end, void (*group)(void))
+{
+    room = bytes_written < end ? end - bytes_written : 0;
+    in_periods(group);
+}
+
+/* As fill, for the period's share of the room: what one has too much the next has less. */
+static void fill_period(void (*group)(void))
+{
+    uint64_t before = bytes_written;
+    fill(before + room / (PERIODS - period), group);
+    uint64_t filled = bytes_written - before;
+    room -= filled < room ? filled : room;
 }
 
 static void block_0(uint64_t end)
@@ -518,23 +588,23 @@ static void transport(void)
 
 static void icms_assessment(void)
 {
-    line("E300 =01012012 =31012012");
-    some(20, 31, "E305 B B D h X R V Z V V V2 Z Z Z Z Z Z Z V1 V1 Z Z");
-    some(8, 20, "E310 V Z F V V V2 Z Z B");
-    some(3, 8, "E330 B V Z V V V Z Z Z Z Z Z Z");
+    line("E300 u v");
+    shared(20, 31, "E305 B B D h X R V Z V V V2 Z Z Z Z Z Z Z V1 V1 Z Z");
+    shared(8, 20, "E310 V Z F V V V2 Z Z B");
+    shared(3, 8, "E330 B V Z V V V Z Z Z Z Z Z Z");
     line("E340 V V V Z Z V Z V V Z Z Z V Z Z Z Z Z V Z Z Z V");
-    some(1, 5, "E350 =PE H V X3 X3 B l o2 =1");
-    some(1, 4, "E360 =PE H =012012 =0051 V D X2 B l2 o1");
+    shared(1, 5, "E350 =PE H V X3 X3 B l o2 =1");
+    shared(1, 4, "E360 =PE H =012012 =0051 V D X2 B l2 o1");
 }
 
 static void ipi_assessment(void)
 {
-    line("E500 =01012012 =31012012 -");
-    some(2, 8, "E520 V F V V Z Z");
-    some(3, 8, "E525 B V V V Z Z");
+    line("E500 u v -");
+    shared(2, 8, "E520 V F V V Z Z");
+    shared(3, 8, "E525 B V V V Z Z");
     line("E540 V Z V Z Z Z V V Z Z Z V Z V Z");
-    some(1, 3, "E550 H V =9 X3 l o2");
-    some(1, 2, "E560 =1097 =012012 Y V D B X2 l2 o1");
+    shared(1, 3, "E550 H V =9 X3 l o2");
+    shared(1, 2, "E560 =1097 =012012 Y V D B X2 l2 o1");
 }
 
 static void block_e(uint64_t end)
@@ -547,16 +617,16 @@ static void block_e(uint64_t end)
     fill(part(30, end), day_of_printers);
     fill(part(30, end), bill);
     fill(end, transport);
-    icms_assessment();
-    ipi_assessment();
+    in_periods(icms_assessment);
+    in_periods(ipi_assessment);
     closing("E990", 0);
 }
 
 static void printed_documents(void)
 {
-    line("F020 =0 =01012012 =31012012 - =PE");
+    line("F020 =0 u v - =PE");
     line("F025 =PE W R D P");
-    for (unsigned left = between(1, 3); left > 0; left--) {
+    for (unsigned left = share(1, 3); left > 0; left--) {
         line("F030 =01 M =1 - R");
         some(1, 3, "F035 M =1 - D R R R - o1");
     }
@@ -575,19 +645,28 @@ static void fuel_day(void)
 static void fuel(void)
 {
     line("F210 I o1");
-    for (unsigned left = between(5, 31); left > 0; left--)
-        fuel_day();
+    shared_times(5, 31, fuel_day);
+}
+
+static void fuel_book(void)
+{
+    line("F200 =1 u v");
+    shared(2, 6, "F205 R f J r B");
+    fill_period(fuel);
+}
+
+static void vehicles(void)
+{
+    line("F250 =1 u v");
+    shared(2, 10, "F255 D B P S W =KJA1234 f r =2009 r X X V B D5 P5 V5 o1");
 }
 
 static void block_f(uint64_t end)
 {
     opening("F001 =0");
-    printed_documents();
-    line("F200 =1 =01012012 =31012012");
-    some(2, 6, "F205 R f J r B");
-    fill(end, fuel);
-    line("F250 =1 =01012012 =31012012");
-    some(2, 10, "F255 D B P S W =KJA1234 f r =2009 r X X V B D5 P5 V5 o1");
+    in_periods(printed_documents);
+    fill_in_periods(end, fuel_book);
+    in_periods(vehicles);
     closing("F990", 0);
 }
 
@@ -596,20 +675,25 @@ static void documents_of_a_kind(void)
     line("G025 B B M =1 - R R R R V Z Z V V2 Z V1");
 }
 
+static void guide(void)
+{
+    line("G020 =0 u v");
+    fill_period(documents_of_a_kind);
+    shared(1, 5, "G030 =2D R R R R R V Z V V2");
+    shared(20, 31, "G050 B B D h R V V Z Z Z V V2 Z Z Z Z Z V1");
+    shared(8, 20, "G400 V Z F V V V2 V2 Z Z");
+    shared(3, 8, "G410 B V Z V V V Z Z Z Z Z Z Z");
+    line("G420 V V V Z Z V Z V V Z Z Z V Z Z Z Z Z V Z Z Z V");
+    shared(1, 5, "G430 H V");
+    shared(1, 4, "G440 =PE H =012012 =0051 V D");
+    line("G450 =0 V V Z V V V V2 Z Z Z Z Z Z");
+    shared(3, 9, "G460 S V V Z V V V V2 Z Z Z Z Z Z");
+}
+
 static void block_g(uint64_t end)
 {
     opening("G001 =0");
-    line("G020 =0 =01012012 =31012012");
-    fill(end, documents_of_a_kind);
-    some(1, 5, "G030 =2D R R R R R V Z V V2");
-    some(20, 31, "G050 B B D h R V V Z Z Z V V2 Z Z Z Z Z V1");
-    some(8, 20, "G400 V Z F V V V2 V2 Z Z");
-    some(3, 8, "G410 B V Z V V V Z Z Z Z Z Z Z");
-    line("G420 V V V Z Z V Z V V Z Z Z V Z Z Z Z Z V Z Z Z V");
-    some(1, 5, "G430 H V");
-    some(1, 4, "G440 =PE H =012012 =0051 V D");
-    line("G450 =0 V V Z V V V V2 Z Z Z Z Z Z");
-    some(3, 9, "G460 S V V Z V V V V2 Z Z Z Z Z Z");
+    fill_in_periods(end, guide);
     closing("G990", 0);
 }
 
@@ -618,14 +702,19 @@ static void stocked_item(void)
     line("H030 =0 P1 B C I U Q Q V V Z V V Z o1");
 }
 
+static void inventory(void)
+{
+    line("H020 =3 v V V Z V V Z V X o2");
+    fill_period(stocked_item);
+    shared(1, 3, "H040 B V");
+    shared(1, 2, "H050 B V");
+    shared(3, 20, "H060 C V");
+}
+
 static void block_h(uint64_t end)
 {
     opening("H001 =0");
-    line("H020 =0 =31122011 V V Z V V Z V X o2");
-    fill(end, stocked_item);
-    some(1, 3, "H040 B V");
-    some(1, 2, "H050 B V");
-    some(3, 20, "H060 C V");
+    fill_in_periods(end, inventory);
     closing("H990", 0);
 }
 
@@ -634,27 +723,27 @@ static void municipality(void)
     line("8030 =0 B B W V Z Z V V e");
 }
 
-static void added_value(uint64_t end)
+static void added_value(void)
 {
-    line("8020 =0 =01012012 =31012012");
-    fill(end, municipality);
+    line("8020 =0 u v");
+    fill_period(municipality);
     line("8030 =1 B B W V Z Z V V e");
-    some(5, 15, "8040 =1 V Z F Z V V");
+    shared(5, 15, "8040 =1 V Z F Z V V");
     line("8050 V V e");
 }
 
 static void goods_bought(void)
 {
-    line("8100 =0 =01012012 =31012012");
-    some(1, 4, "8110 B V V V V");
+    line("8100 =0 u v");
+    shared(1, 4, "8110 B V V V V");
 }
 
 static void credit_gathered(void)
 {
-    line("8160 =0 =01012012 =31012012");
+    line("8160 =0 u v");
     line("8165 V V V V V");
-    some(1, 4, "8170 V V X3 B l2 l1");
-    for (unsigned left = between(1, 4); left > 0; left--) {
+    shared(1, 4, "8170 V V X3 B l2 l1");
+    for (unsigned left = share(1, 4); left > 0; left--) {
         line("8175 B V q3 l2");
         some(0, 2, "8180 B V H q3 l1");
     }
@@ -662,8 +751,8 @@ static void credit_gathered(void)
 
 static void supplies(void)
 {
-    line("8300 =0 =01012012 =31012012");
-    some(4, 12, "8310 =1 G V Z Z V V V2 Z");
+    line("8300 =0 u v");
+    shared(4, 12, "8310 =1 G V Z Z V V V2 Z");
 }
 
 static void benefit(void)
@@ -699,17 +788,22 @@ static void favoured_assessment(void)
     line("8590 A Z V A Z V V V V V V A V V");
 }
 
+static void incentives(void)
+{
+    line("8500 =0 u v");
+    shared_times(1, 3, benefit);
+    fill_period(favoured_document);
+    shared_times(1, 3, favoured_assessment);
+}
+
 static void block_8(uint64_t end)
 {
     opening("8001 =0 =PE");
-    added_value(part(30, end));
-    goods_bought();
-    credit_gathered();
-    supplies();
-    line("8500 =0 =01012012 =31012012");
-    some_times(1, 3, benefit);
-    fill(end, favoured_document);
-    some_times(1, 3, favoured_assessment);
+    fill_in_periods(part(30, end), added_value);
+    in_periods(goods_bought);
+    in_periods(credit_gathered);
+    in_periods(supplies);
+    fill_in_periods(end, incentives);
     closing("8990", 0);
 }
 

@@ -36,6 +36,7 @@
 #define MOST_BYTES UINT64_C(4294967295)
 #define LONGEST_PIECE 65536
 #define LEVELS 7
+#define MOST_PERIODS 64
 
 /* ------------------------------------------------------------ the layout */
 
@@ -185,6 +186,15 @@ enum role { START, OPENING, DATA, CLOSING, END };
 enum { ROWS(ROW_NUMBER) ROW_NONE };
 static_assert(ROW_NONE == 134, "134 rows");
 
+/* The rows that have one line for each period or, H020, for each day. */
+#define PERIODIC(X) \
+    X(E300) X(E500) X(F020) X(F200) X(F250) X(G020) X(H020) X(8020) X(8100) X(8160) X(8300) X(8500)
+#define PERIODIC_NUMBER(code) PERIODIC_##code,
+enum { PERIODIC(PERIODIC_NUMBER) PERIODIC_NONE };
+static_assert(PERIODIC_NONE == 12, "12 rows with periods");
+#define PERIODIC_OF(code) [ROW_##code] = PERIODIC_##code,
+static const uint8_t periodic[ROW_NONE] = {PERIODIC(PERIODIC_OF)};
+
 /* The blocks in the order they come in. */
 enum { BLOCK_0, BLOCK_C, BLOCK_E, BLOCK_F, BLOCK_G, BLOCK_H, BLOCK_8, BLOCK_9, BLOCK_NONE };
 static_assert(BLOCK_NONE == 8, "8 blocks");
@@ -242,6 +252,8 @@ enum stage {
     IN_DECIMALS = DECIMALS,
     IN_MARK = MARK,
     IN_DATE = DATE,
+    IN_FIRST_DAY = FIRST_DAY,
+    IN_LAST_DAY = LAST_DAY,
     IN_CHECKED = CHECKED,
     IN_COUNT = COUNT,
     IN_NAMED = NAMED,
@@ -252,6 +264,12 @@ enum stage {
     LINE_FEED,
     FILE_END,
     REFUSED,
+};
+
+/* The different ones that a row's lines had: the first day in the upper half, the last day in the lower. */
+struct periods {
+    uint32_t number;
+    uint64_t had[MOST_PERIODS];
 };
 
 struct checker {
@@ -276,6 +294,7 @@ struct checker {
     struct { uint32_t row, line; } open[LEVELS];
     uint64_t mark;  /* field 2 of its opening */
     uint64_t count; /* the true one, where the line says one */
+    uint64_t first_day; /* of its period, 0 if it has none */
 
     /* for each row: how often under which parent line, and over the file */
     struct { uint32_t parent, times; } under[ROW_NONE];
@@ -285,6 +304,8 @@ struct checker {
     /* for each row, and last for codes that are none: how often they are stated to occur, see UNTRUE */
     uint64_t stated[ROW_NONE + 1];
     unsigned named; /* by the line in hand */
+
+    struct periods periods[PERIODIC_NONE]; /* for each periodic row */
 
     unsigned refusal, refused_field; /* where the stage is REFUSED */
 };
@@ -504,6 +525,35 @@ static unsigned judge_date(const struct checker *c)
     return number == 0 && c->length != 0 && !is_date((uint32_t)c->value) ? 12 : number;
 }
 
+static unsigned judge_first_day(struct checker *c)
+{
+    c->first_day = c->value;
+    return judge_date(c);
+}
+
+/* A new one is kept before its line has ended: until then no other line is judged. */
+static unsigned judge_period(struct periods *before, uint64_t period)
+{
+    for (uint32_t i = 0; i < before->number; i++)
+        if (before->had[i] == period)
+            return 20;
+    if (before->number == MOST_PERIODS)
+        return 21;
+    before->had[before->number++] = period;
+    return 0;
+}
+
+/* An empty field has the value 0, which no date has: so days with the same value have the same bytes. */
+static unsigned judge_last_day(struct checker *c)
+{
+    unsigned number = judge_date(c);
+    if (number != 0)
+        return number;
+    uint64_t period = c->first_day << 32 | c->value;
+    c->first_day = 0; /* for H020, where none comes */
+    return judge_period(&c->periods[periodic[c->row->number]], period);
+}
+
 static unsigned judge_checked(const struct checker *c)
 {
     unsigned number = judge_digits(c);
@@ -564,6 +614,10 @@ static unsigned judge_field(struct checker *c)
         return judge_mark(c);
     case DATE:
         return judge_date(c);
+    case FIRST_DAY:
+        return judge_first_day(c);
+    case LAST_DAY:
+        return judge_last_day(c);
     case CHECKED:
         return judge_checked(c);
     case COUNT:

@@ -10,16 +10,19 @@
 #include <stddef.h>
 #include <stdint.h>
 
-enum form { TEXT, FIXED, DIGITS, DECIMALS, MARK, DATE, CHECKED, COUNT, NAMED, STATED };
+enum form { TEXT, FIXED, DIGITS, DECIMALS, MARK, DATE, FIRST_DAY, LAST_DAY, CHECKED, COUNT, NAMED, STATED };
 
 #define CNPJ_SIZE 14
 #define CPF_SIZE 11
 
 /*
- * The size is the most bytes of TEXT and NAMED, the bytes of FIXED, MARK, DATE
- * and CHECKED and of DIGITS and STATED (0: any number), and for DECIMALS the
- * digits after the comma. The last two digits of CHECKED are made from those
- * before. STATED is how many lines of the file have the code NAMED before it.
+ * The size is the most bytes of TEXT and NAMED, the bytes of FIXED, MARK,
+ * CHECKED and the three forms of a date, and of DIGITS and STATED (0: any
+ * number), and for DECIMALS the digits after the comma. FIRST_DAY and LAST_DAY
+ * are DT_INI and DT_FIN where the row has one line for each period; H020, which
+ * has one for each day, has only a LAST_DAY. The last two digits of CHECKED are
+ * made from those before. STATED is how many lines of the file have the code
+ * NAMED before it.
  */
 struct kind {
     uint8_t form;
@@ -33,6 +36,8 @@ struct kind {
 #define N_ANY {DIGITS, 0, NULL}
 #define D(decimals) {DECIMALS, decimals, NULL}
 #define DT {DATE, 8, NULL}
+#define FIRST {FIRST_DAY, 8, NULL}
+#define LAST {LAST_DAY, 8, NULL}
 #define CNPJ {CHECKED, CNPJ_SIZE, NULL}
 #define CPF {CHECKED, CPF_SIZE, NULL}
 #define SAYS(size, text) {FIXED, size, text}
@@ -169,7 +174,7 @@ static const struct kind kinds_E140[] = {
     N(7), C(2), N_ANY, C_255, N_ANY, N_ANY, N_ANY, DT, C(4), C_255,
     D(2), N(4), D(2), D(2), D(2), D(2), D(2), C_255,
 };
-static const struct kind kinds_E300[] = {DT, DT};
+static const struct kind kinds_E300[] = {FIRST, LAST};
 static const struct kind kinds_E305[] = {
     N(1), N(1), DT, C(4), C_255, N_ANY, D(2), D(2), D(2), D(2),
     D(2), D(2), D(2), D(2), D(2), D(2), D(2), D(2), D(2), D(2),
@@ -194,7 +199,7 @@ static const struct kind kinds_E360[] = {
     C(2), N(3), N(6), C_255, D(2), DT, C_255, N(1), C_255, C_255,
 };
 /* The sheet has no fourth field. */
-static const struct kind kinds_E500[] = {DT, DT, C_255};
+static const struct kind kinds_E500[] = {FIRST, LAST, C_255};
 static const struct kind kinds_E520[] = {D(2), N(4), D(2), D(2), D(2), D(2)};
 static const struct kind kinds_E525[] = {N(1), D(2), D(2), D(2), D(2), D(2)};
 static const struct kind kinds_E540[] = {
@@ -208,13 +213,13 @@ static const struct kind kinds_E560[] = {
     C(4), N(6), N(4), D(2), DT, N(1), C_255, C_255, C_255,
 };
 
-static const struct kind kinds_F020[] = {N(1), DT, DT, C_255, C_255};
+static const struct kind kinds_F020[] = {N(1), FIRST, LAST, C_255, C_255};
 static const struct kind kinds_F025[] = {C(2), N(7), N_ANY, DT, C_255};
 static const struct kind kinds_F030[] = {N(2), C(2), C_255, N_ANY, N_ANY};
 static const struct kind kinds_F035[] = {
     C(2), C_255, N_ANY, DT, N_ANY, N_ANY, N_ANY, N_ANY, C_255,
 };
-static const struct kind kinds_F200[] = {N(1), DT, DT};
+static const struct kind kinds_F200[] = {N(1), FIRST, LAST};
 /* EQP_CNPJ is a name that does not begin CNPJ. */
 static const struct kind kinds_F205[] = {C_255, C_255, N(14), C_255, N(1)};
 static const struct kind kinds_F210[] = {C_255, C_255};
@@ -230,13 +235,13 @@ static const struct kind kinds_F225[] = {
     D(2), D(2), D(3), C_255,
 };
 static const struct kind kinds_F230[] = {C_255, C_255, N_ANY, N_ANY, D(2)};
-static const struct kind kinds_F250[] = {N(1), DT, DT};
+static const struct kind kinds_F250[] = {N(1), FIRST, LAST};
 static const struct kind kinds_F255[] = {
     DT, N(1), C_255, C(2), N(7), C_255, C_255, C_255, N(4), C_255,
     C_255, C_255, D(2), N(1), DT, C_255, D(2), C_255,
 };
 
-static const struct kind kinds_G020[] = {N(1), DT, DT};
+static const struct kind kinds_G020[] = {N(1), FIRST, LAST};
 static const struct kind kinds_G025[] = {
     N(1), N(1), C(2), C_255, N_ANY, N_ANY, N_ANY, N_ANY, N_ANY, D(2),
     D(2), D(2), D(2), D(2), D(2), D(2),
@@ -272,7 +277,7 @@ static const struct kind kinds_G460[] = {
 };
 
 static const struct kind kinds_H020[] = {
-    N(1), DT, D(2), D(2), D(2), D(2), D(2), D(2), D(2), C_255,
+    N(1), LAST, D(2), D(2), D(2), D(2), D(2), D(2), D(2), C_255,
     C_255,
 };
 static const struct kind kinds_H030[] = {
@@ -285,7 +290,7 @@ static const struct kind kinds_H060[] = {N(8), D(2)};
 
 /* The sheets fix a text for UF, here, and for two fields of 9020: only those of 0000 are judged. */
 static const struct kind kinds_8001[] = {{MARK, 1, NULL}, C(2)};
-static const struct kind kinds_8020[] = {N(1), DT, DT};
+static const struct kind kinds_8020[] = {N(1), FIRST, LAST};
 static const struct kind kinds_8030[] = {
     N(1), N(1), N(1), N(7), D(2), D(2), D(2), D(2), D(2), D(4),
 };
@@ -293,21 +298,21 @@ static const struct kind kinds_8040[] = {
     N(1), D(2), D(2), N(4), D(2), D(2), D(2),
 };
 static const struct kind kinds_8050[] = {D(2), D(2), D(4)};
-static const struct kind kinds_8100[] = {N(1), DT, DT};
+static const struct kind kinds_8100[] = {N(1), FIRST, LAST};
 static const struct kind kinds_8110[] = {N(1), D(2), D(2), D(2), D(2)};
 /* The sheet's column for decimals repeats the fields' numbers. */
-static const struct kind kinds_8160[] = {N(1), DT, DT};
+static const struct kind kinds_8160[] = {N(1), FIRST, LAST};
 static const struct kind kinds_8165[] = {D(2), D(2), D(2), D(2), D(2)};
 static const struct kind kinds_8170[] = {
     D(2), D(2), C_255, N(1), C_255, C_255,
 };
 static const struct kind kinds_8175[] = {N(1), D(2), C_255, C_255};
 static const struct kind kinds_8180[] = {N(1), D(2), C_255, C_255, C_255};
-static const struct kind kinds_8300[] = {N(1), DT, DT};
+static const struct kind kinds_8300[] = {N(1), FIRST, LAST};
 static const struct kind kinds_8310[] = {
     N(1), N(2), D(2), D(2), D(2), D(2), D(2), D(2), D(2),
 };
-static const struct kind kinds_8500[] = {N(1), DT, DT};
+static const struct kind kinds_8500[] = {N(1), FIRST, LAST};
 static const struct kind kinds_8505[] = {N(1), N(5), DT, N_ANY, N(1)};
 static const struct kind kinds_8510[] = {N(5), DT, N_ANY};
 static const struct kind kinds_8515[] = {N_ANY};
