@@ -7,12 +7,14 @@ use Rattle.layout.specs.Text
 use Rattle.layout.specs.Rows
 use Rattle.layout.specs.Sheets
 use Rattle.layout.specs.Kinds
+use Rattle.layout.specs.Periods as Dates
 use Rattle.rules.specs.Bytes
 use Rattle.rules.specs.Order
 use Rattle.rules.specs.Counts
 use Rattle.rules.specs.CheckDigits
 use Rattle.rules.specs.Fields
 use Rattle.rules.specs.Position
+use Rattle.rules.specs.Periods
 use Rattle.rules.specs.Statements
 use Rattle.rules.specs.Rules
 use Rattle.rules.specs.Verdict
@@ -26,6 +28,7 @@ unfolding cases totalsOfFiles fileOf
     Rows.rowTable Rows.listed Rows.code Rows.fields Rows.level Rows.occurrence Rows.limit Rows.blockLetters Rows.placeOf
     Rows.block Rows.isOpening Rows.isClosing Rows.lastAmong Rows.parent Rows.opening Rows.rowFrom Rows.rowOfCode
     Sheets.sheets Kinds.kindOf Kinds.sheetOf Kinds.fitted Kinds.kindsOf Kinds.kind
+    Dates.periods Dates.periodCodes Dates.periodOf Dates.firstDates Dates.laterDates Dates.firstDate Dates.laterDate
     Bytes.cut Bytes.lines Bytes.lineAtHand Bytes.part Bytes.field Bytes.rowOfWord Bytes.rowOf Bytes.rows Bytes.rowAtHand
     Bytes.bars Bytes.word Bytes.empty Bytes.isEndByte
     Order.last Order.shallower Order.openRows Order.among Order.isOpen Order.startsFile Order.startsBlock Order.endsBlock
@@ -35,10 +38,10 @@ unfolding cases totalsOfFiles fileOf
     CheckDigits.isCnpj CheckDigits.isCpf
     Fields.isDigit Fields.allDigits Fields.value Fields.isDecimal Fields.upToDecimals Fields.beginsDecimal Fields.isLeapYear
     Fields.daysOf Fields.isDate Fields.sameBytes Fields.isText Fields.formOf Fields.states
-    Statements.occurs Statements.isTrue Statements.allTrue
+    Periods.samePair Periods.seenBefore Periods.crowded Statements.occurs Statements.isTrue Statements.allTrue
     Rules.inField Rules.pastFields Rules.isCodeBar Rules.rowToBe Rules.isFieldBar Rules.formAtHand Rules.breaks1 Rules.breaks2
     Rules.breaks3 Rules.breaks4 Rules.breaks5 Rules.openedBy Rules.breaks6 Rules.breaks7 Rules.breaks8 Rules.breaks9
-    Rules.breaks10 Rules.breaks11 Rules.breaks12 Rules.breaks13 Rules.breaks24 Rules.breaks23 Rules.controlByte Rules.wrongByte
+    Rules.breaks10 Rules.breaks11 Rules.breaks12 Rules.breaks13 Rules.breaks24 Rules.isPairBar Rules.breaks20 Rules.breaks21 Rules.breaks23 Rules.controlByte Rules.wrongByte
     Position.position Rules.isLastLine Rules.complete Rules.full
     Rules.rules Rules.firstBroken Rules.faultBy Rules.fault
     Verdict.judged Verdict.verdictAfter Verdict.verdict Verdict.finishAfter Verdict.finishVerdict Verdict.finalOf

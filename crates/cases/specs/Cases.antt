@@ -41,6 +41,11 @@ withData statements lines9 lines =
     first ∷ "|0001|1|\r\n" ∷ "|0990|3|\r\n" ∷ "|9001|0|\r\n" ∷ statements
     ++ "|9990|" ∷ lines9 ∷ "|\r\n|9999|" ∷ lines ∷ "|\r\n" ∷ []
 
+-- Base with these two lines in block E
+abbrev withPeriods : String → String → List String
+withPeriods one other =
+    first ∷ "|0001|1|\r\n" ∷ "|0990|3|\r\n" ∷ "|E001|0|\r\n" ∷ one ∷ other ∷ "|E990|4|\r\n" ∷ "|9001|1|\r\n" ∷ "|9990|3|\r\n|9999|10|\r\n" ∷ []
+
 -- number, line, field, position, lines ended, bytes judged; the first line has 60 bytes, each other line of Base 10
 unfoldable pub cases : List Case
 cases =
@@ -89,6 +94,9 @@ cases =
     case
     (first ∷ "|0001|1|\r\n" ∷ "|0990|3|\r\n" ∷ "|8001|1|PE|\r\n|8990|2|\r\n" ∷ "|9001|1|\r\n|9990|3|\r\n|9999|8|\r\n" ∷ [])
     (accepted 8 133) ∷
+    -- 02, request b: two E300 with different pairs of dates stand, with the same pair: 20, at field 3
+    case (withPeriods "|E300|01012012|31012012|\r\n" "|E300|01022012|29022012|\r\n") (accepted 10 183) ∷
+    case (withPeriods "|E300|01012012|31012012|\r\n" "|E300|01012012|31012012|\r\n") (refused 20 6 3 0 5 140) ∷
     -- Base plus byte 26: 15, line 7
     case (first ∷ "|0001|1|\r\n" ∷ closing0 ++ "\u{1a}" ∷ []) (refused 15 7 0 0 6 111) ∷
     []

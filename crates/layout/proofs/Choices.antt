@@ -7,7 +7,9 @@ use Rattle.layout.specs.Sheets.{sheets}
 use Rattle.layout.specs.Kinds.{kindOf, sheetOf, fitted, kindsOf, kind}
 use Rattle.layout.specs.Lists.{joinedParts}
 use Rattle.layout.specs.Packed.{kindNumber}
-use Rattle.layout.specs.Choices.{unequal, choices, readings, digitFieldsFrom, digitFieldsOfRows, digitFields}
+use Rattle.layout.specs.Periods.{periods}
+use Rattle.layout.specs.Choices.{unequal, choices, readings, digitFieldsFrom, digitFieldsOfRows, digitFields, numberFrom}
+use Rattle.layout.specs.Choices.{periodsNamed}
 
 pub unequal-rows : unequal rowTable ≡ "C305" ∷ "C310" ∷ "E500" ∷ []
 unfolding unequal sheetOf sheets rowTable
@@ -27,3 +29,8 @@ pub digit-fields : digitFieldsOfRows ≡ digitFields
 unfolding digitFieldsOfRows digitFieldsFrom digitFields joinedParts kindNumber kindsOf fitted kindOf sheetOf sheets isOpening isClosing
     fields code listed rowTable textNumber codeNumber bytes
 digit-fields = refl
+
+-- these rows, and no others, have a period, and its dates are these fields
+pub periods-named : periodsNamed rowTable ≡ periods
+unfolding periodsNamed periods numberFrom sheetOf sheets rowTable
+periods-named = refl

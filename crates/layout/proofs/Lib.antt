@@ -13,3 +13,4 @@ pub mod Choices
 pub mod PackedLaws
 pub mod SlotLaws
 pub mod RoleLaws
+pub mod PeriodLaws

@@ -1,5 +1,5 @@
 -- What docs/ says of single rows and fields. docs/FIELDS.md: the rows whose sheets list another number of fields than 2.6.1 gives, and
--- the fields at which the sheets and the other texts part ways, with what each of them is here.
+-- the fields at which the sheets and the other texts part ways, with what each of them is here; the fields of a period's dates.
 use mathlib.Core.Bool.{Bool, not, _&&_, _||_}
 use mathlib.Core.List.{List, [], _∷_}
 use Prim.Native.Nat.{ℕ, suc}
@@ -9,10 +9,11 @@ use lib.ListN.{length}
 use Rattle.layout.specs.Lists.{joinedParts}
 use Rattle.layout.specs.Pick.{pick}
 use Rattle.layout.specs.Text.{textNumber, sameText}
-use Rattle.layout.specs.Rows.{Listed, anyNumber, rowCount, listed, limit, rowOfCode}
+use Rattle.layout.specs.Rows.{Listed, anyNumber, P, rowCount, listed, limit, rowOfCode}
 use Rattle.layout.specs.Kind.{Kind, lineCode, C, C-, N, N-, decimals, date, cnpj, cpf, lfpd, brasil, opens, noField}
-use Rattle.layout.specs.Sheets.{sheets}
+use Rattle.layout.specs.Sheets.{Entry, sheets}
 use Rattle.layout.specs.Kinds.{sheetOf, kindsOf, kind}
+use Rattle.layout.specs.Periods.{Period, period}
 use Rattle.layout.specs.Packed.{kindNumber}
 
 -- the data lines and 0000 go by their sheets; openings and closings, of level 1, and 9999 don't
@@ -149,3 +150,24 @@ digitFields =
     digitField "C600" 3 cnpj ∷
     digitField "F225" 4 cnpj ∷
     []
+
+-- 02, request b: "each level 2 row marked P", with "the fields named DT_INI and DT_FIN; for H020 its date", which its sheet names DT_INV
+abbrev hasPeriod : Listed → Bool
+hasPeriod l = eqb (l .level) 2 && eqb (l .occurrence) P
+
+abbrev nameIn : String → String → String
+nameIn code name = pick (sameText code "H020") "DT_INV" name
+
+-- the number of the field that has this name, the first entry's being n; 0 where none has it
+unfoldable pub numberFrom : String → ℕ → List Entry → ℕ
+numberFrom name n [] = 0
+numberFrom name n (e ∷ es) = let rest = numberFrom name (suc n) es in pick (sameText (e .name) name) n rest
+
+abbrev numberOf : String → String → ℕ
+numberOf name code = numberFrom (nameIn code name) 1 (sheetOf code sheets)
+
+unfoldable pub periodsNamed : List Listed → List Period
+periodsNamed [] = []
+periodsNamed (l ∷ ls) =
+    let rest = periodsNamed ls in
+    pick (hasPeriod l) (period (l .code) (numberOf "DT_INI" (l .code)) (numberOf "DT_FIN" (l .code)) ∷ rest) rest

@@ -6,5 +6,6 @@ pub mod Climb
 pub mod Kind
 pub mod Sheets
 pub mod Kinds
+pub mod Periods
 pub mod Choices
 pub mod Packed

@@ -1,6 +1,6 @@
--- Rules 10 to 13, 24 and 23 at the state of the bytes received: what the bar after a field finds.
+-- Rules 10 to 13, 24, 20, 21 and 23 at the state of the bytes received: what the bar after a field finds.
 use mathlib.Core.Path.{_≡_, _∙_, refl, sym, ap}
-use mathlib.Core.Bool.{Bool, true, false, not, _&&_, _||_, and-true}
+use mathlib.Core.Bool.{Bool, true, false, not, _&&_, _||_}
 use mathlib.Core.List.{List, _∷_}
 use Prim.Native.Nat.{ℕ, _+_, _<_, _≤_}
 use native.Mathlib.Omega.{arith}
@@ -10,14 +10,19 @@ use lib.ListN.{length}
 use borrow.Author.Tests.{eq-eqb, eqb-true}
 use Rattle.layout.specs.Pick.{pick}
 use Rattle.layout.specs.Rows.{block, isClosing, fields, row9999}
+use Rattle.layout.specs.Kind.{date}
 use Rattle.layout.specs.Kinds.{kind}
+use Rattle.layout.specs.Packed.{kindNumber}
+use Rattle.layout.specs.Periods.{laterDate}
 use Rattle.rules.specs.Bytes.{lines, rows, rowAtHand, bars, word, empty}
 use Rattle.rules.specs.Counts.{due}
 use Rattle.rules.specs.Fields.{Form, formOf, states}
+use Rattle.rules.specs.Periods.{seenBefore, crowded}
 use Rattle.rules.specs.Statements.{allTrue}
-use Rattle.rules.specs.Rules.{Fault, clear, breaks, formAtHand, wrongByte}
-use Rattle.rules.proofs.TestLaws.{split, pick-le, and-false}
-use Rattle.layout.proofs.RoleLaws.{opening-kind, fields-9999}
+use Rattle.rules.specs.Rules.{Fault, clear, breaks, formAtHand, isPairBar, withBar, wrongByte}
+use Rattle.rules.proofs.TestLaws.{split, pick-le}
+use Rattle.layout.proofs.RoleLaws.{opening-kind, fields-9999, kind-9999}
+use Rattle.layout.proofs.PeriodLaws.{period-9999, later-some}
 use Rattle.rules.proofs.ByteLaws.{bars-lines, rows-length}
 use Rattle.rules.proofs.FaultLaws.{fieldFault}
 use Rattle.rules.proofs.StandLaws.{stand-closing}
@@ -27,9 +32,10 @@ use Rattle.field.specs.Streaming.{cap, faultOf}
 use Rattle.field.specs.Ruled.{ruled}
 use Rattle.field.proofs.FaultLaws.{fault-is}
 use Rattle.field.proofs.OpeningLaws.{opens-zero}
-use Rattle.line.specs.Machine.{dueOf, foundOf}
+use Rattle.line.specs.Machine.{dueOf, Asked, pairRuleOf, askedRuleOf, foundOf}
 use Rattle.line.proofs.KindLaws.{count-row}
-use Rattle.line.proofs.HotOf.{hotOf, OpeningTold}
+use Rattle.line.proofs.DateLaws.{dates-kinds}
+use Rattle.line.proofs.HotOf.{hotOf, pick-same, OpeningTold}
 
 -- what is due is asked of counts alone
 ruled-due : (f : Form) (m n : ℕ) (w : List ℕ) → (f .isCount ≡ true → m ≡ n) → ruled f m w ≡ ruled f n w
@@ -40,17 +46,33 @@ or-second : (a b : Bool) → (a || b) ≡ true → b ≡ false → a ≡ true
 or-second true b e f = refl
 or-second false b e f = sym f ∙ e
 
+-- field 2 of 9999 is no date
+date-9999 : eqb (kindNumber (kind row9999 2)) (kindNumber date) ≡ false
+unfolding kindNumber
+date-9999 = rw kind-9999
+
 -- the number of the rule that the bar after the field at hand breaks, 0 where it breaks none
 abbrev pub found : List ℕ → ℕ
 found seen = ruled (formOf (kind (rowAtHand seen) (bars seen))) (due (rowAtHand seen) (rows seen)) (word seen)
 
--- the same with 23, which is asked at the count of 9999 if it breaks none of them
+-- the same with those that are asked of the lines before, if it breaks none of them
 abbrev pub holds : List ℕ → Bool
 holds seen = allTrue (row9999 ∷ rows seen) (lines seen)
 
+abbrev askedAt : List ℕ → ℕ
+askedAt seen =
+    pick (isPairBar seen && seenBefore (withBar seen) (lines seen)) 20
+    (pick (isPairBar seen && crowded (withBar seen) (lines seen)) 21
+    (pick (eqb (rowAtHand seen) row9999 && eqb (bars seen) 2 && not (holds seen)) 23 0))
+
 abbrev pub foundAt : List ℕ → ℕ
-foundAt seen =
-    pick (eqb (found seen) 0 && (eqb (rowAtHand seen) row9999 && eqb (bars seen) 2 && not (holds seen))) 23 (found seen)
+foundAt seen = pick (eqb (found seen) 0) (askedAt seen) (found seen)
+
+-- what the state answers of the lines before is so, where it is asked
+pub record Answers (seen : List ℕ) (a : Asked) : Type 0 where
+  pub ofHolds : a .holds ≡ holds seen
+  pub ofPair : 2 ≤ bars seen → bars seen ≤ fields (rowAtHand seen) → found seen ≡ 0 → isPairBar seen ≡ true
+      → (a .repeated ≡ seenBefore (withBar seen) (lines seen)) × (a .crowded ≡ crowded (withBar seen) (lines seen))
 
 module _ (seen : List ℕ) (late : 2 ≤ bars seen) (s : Sound seen) where
   -- 13: what a count must state
@@ -83,21 +105,52 @@ module _ (seen : List ℕ) (late : 2 ≤ bars seen) (s : Sound seen) where
       fault-is k (dueOf (hotOf seen)) (word seen) due-small
       ∙ ruled-due (formOf k) (dueOf (hotOf seen)) (due (rowAtHand seen) (rows seen)) (word seen) due-is
 
-  -- 23: 9999 has no field after its second
-  pub found-is : bars seen ≤ fields (rowAtHand seen) → foundOf (hotOf seen) (holds seen) ≡ foundAt seen
-  unfolding foundOf
-  found-is within =
-      let none = eqb (found seen) 0 in
-      rw field-is
+  -- 23: 9999 has no field after its second, and that is no date
+  last-is : bars seen ≤ fields (rowAtHand seen) → (a : Asked) → a .holds ≡ holds seen → isPairBar seen ≡ false
+      → askedRuleOf (hotOf seen) a ≡ pick (eqb (rowAtHand seen) row9999 && eqb (bars seen) 2 && not (holds seen)) 23 0
+  unfolding askedRuleOf pairRuleOf isPairBar
+  last-is within a h other =
+      rw (other, h)
       (split (eqb (rowAtHand seen) row9999)
       (λ t. let row = eqb-true (rowAtHand seen) row9999 t in
       let two : bars seen ≡ 2 = omega (arith, ap fields row ∙ fields-9999) in
-      rw (t, eq-eqb (bars seen) 2 two, and-true none))
-      (λ t. rw (t, and-false none)))
+      rw (t, eq-eqb (bars seen) 2 two, row, two, date-9999))
+      (λ t. rw (t, pick-same {A = ℕ} (eqb (hotOf seen .kind) (kindNumber date)) 0)))
+
+  -- 20 and 21: the later date is a date
+  pair-is : bars seen ≤ fields (rowAtHand seen) → (a : Asked) → Answers seen a → found seen ≡ 0 → isPairBar seen ≡ true
+      → askedRuleOf (hotOf seen) a ≡ askedAt seen
+  unfolding askedRuleOf pairRuleOf
+  pair-is within a answers none at =
+      let r = rowAtHand seen in
+      let e : bars seen ≡ laterDate r = eqb-true (bars seen) (laterDate r) (unfold isPairBar in at) in
+      let known = s .known late .0 in
+      let p = later-some r (omega arith) in
+      let is-date : kindNumber (kind r (bars seen)) ≡ kindNumber date = ap kindNumber (rw e (dates-kinds r known p .1)) in
+      let q = answers .ofPair late within none at in
+      rw (
+        at,
+        eq-eqb (hotOf seen .kind) (kindNumber date) is-date,
+        eq-eqb (bars seen) (laterDate r) e,
+        q .0,
+        q .1,
+        period-9999 r known p,
+      )
+
+  pub found-is : bars seen ≤ fields (rowAtHand seen) → (a : Asked) → Answers seen a → foundOf (hotOf seen) a ≡ foundAt seen
+  unfolding foundOf
+  found-is within a answers =
+      rw field-is
+      (split (eqb (found seen) 0)
+      (λ t. rw t
+      (split (isPairBar seen)
+      (λ u. pair-is within a answers (eqb-true (found seen) 0 t) u)
+      (λ u. last-is within a (answers .ofHolds) u ∙ rw u)))
+      (λ t. rw t))
 
 -- an opening's field 2 that its bar passes is 0 where its value is
-none-found : (n : ℕ) (untold : Bool) → pick (eqb n 0 && untold) 23 n ≡ 0 → n ≡ 0
-none-found n untold e = split (eqb n 0) (λ t. eqb-true n 0 t) (λ t. rw t at e)
+none-found : (n asked : ℕ) → pick (eqb n 0) asked n ≡ 0 → n ≡ 0
+none-found n asked e = split (eqb n 0) (λ t. eqb-true n 0 t) (λ t. rw t at e)
 
 pub opening-told : (seen : List ℕ) → foundAt seen ≡ 0 → OpeningTold seen
 opening-told seen none two o =
@@ -108,22 +161,33 @@ opening-told seen none two o =
 abbrev faultFor : ℕ → ℕ → ℕ → Fault
 faultFor n f p = pick (eqb n 0) clear (breaks n f p)
 
--- the six rules of a field's bar, as one number; the first gives a position
+-- the rules of a field's bar, as one number; the first gives a position
 abbrev numbered : (a b c d e : Bool) → ℕ
 numbered a b c d e = pick a 10 (pick b 11 (pick c 12 (pick d 13 (pick e 24 0))))
 
-by-number : (a b c d e g : Bool) (f p : ℕ)
+abbrev numberedLate : (t u g : Bool) → ℕ
+numberedLate t u g = pick t 20 (pick u 21 (pick g 23 0))
+
+by-late : (t u g : Bool) (f : ℕ)
+    → pick t (breaks 20 f 0) (pick u (breaks 21 f 0) (pick g (breaks 23 f 0) clear)) ≡ faultFor (numberedLate t u g) f 0
+by-late true u g f = refl
+by-late false true g f = refl
+by-late false false true f = refl
+by-late false false false f = refl
+
+by-number : (a b c d e t u g : Bool) (f p : ℕ)
     → pick a (breaks 10 f p)
     (pick b (breaks 11 f 0)
-    (pick c (breaks 12 f 0) (pick d (breaks 13 f 0) (pick e (breaks 24 f 0) (pick g (breaks 23 f 0) clear)))))
-    ≡ faultFor (pick (eqb (numbered a b c d e) 0 && g) 23 (numbered a b c d e)) f (pick a p 0)
-by-number true b c d e g f p = refl
-by-number false true c d e g f p = refl
-by-number false false true d e g f p = refl
-by-number false false false true e g f p = refl
-by-number false false false false true g f p = refl
-by-number false false false false false true f p = refl
-by-number false false false false false false f p = refl
+    (pick c (breaks 12 f 0)
+    (pick d (breaks 13 f 0)
+    (pick e (breaks 24 f 0) (pick t (breaks 20 f 0) (pick u (breaks 21 f 0) (pick g (breaks 23 f 0) clear)))))))
+    ≡ faultFor (pick (eqb (numbered a b c d e) 0) (numberedLate t u g) (numbered a b c d e)) f (pick a p 0)
+by-number true b c d e t u g f p = refl
+by-number false true c d e t u g f p = refl
+by-number false false true d e t u g f p = refl
+by-number false false false true e t u g f p = refl
+by-number false false false false true t u g f p = refl
+by-number false false false false false t u g f p = by-late t u g f
 
 abbrev pub wrongForm : List ℕ → Bool
 wrongForm seen = not (empty (word seen)) && not (formAtHand seen .characters (word seen))
@@ -136,4 +200,5 @@ field-fault-is seen =
     let f = formOf (kind (rowAtHand seen) (bars seen)) in
     by-number (not (empty w) && not (f .characters w)) (not (empty w) && not (f .size (length w))) (not (f .content w))
     (f .isCount && not (states (due (rowAtHand seen) (rows seen)) w)) (not (empty w) && not (f .digits w))
+    (isPairBar seen && seenBefore (withBar seen) (lines seen)) (isPairBar seen && crowded (withBar seen) (lines seen))
     (eqb (rowAtHand seen) row9999 && eqb (bars seen) 2 && not (holds seen)) (bars seen) (wrongByte seen)

@@ -1,9 +1,12 @@
 pub mod Steps
 pub mod StatementLaws
+pub mod DateLaws
 pub mod RowLaws
 pub mod KindLaws
 pub mod HotOf
+pub mod PairLaws
 pub mod OrderSim
 pub mod FieldSim
+pub mod PairSim
 pub mod Sim
 pub mod PositionSim

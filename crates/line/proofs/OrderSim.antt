@@ -1,7 +1,7 @@
 -- Rules 4 to 6 at the state of the bytes received: where a line can stand, what the line before said, and room under one parent.
 use mathlib.Core.Path.{_≡_, _∙_, refl, sym}
 use mathlib.Core.Bool.{true, false, _&&_, _||_}
-use mathlib.Core.List.{List, [], _∷_}
+use mathlib.Core.List.{List, [], _∷_, map}
 use Prim.Native.Nat.{ℕ, _+_, _*_, _<_, _≤_}
 use lib.Dec.{eqb, ltb}
 use native.Mathlib.Omega.{arith}
@@ -9,22 +9,25 @@ use borrow.Author.Tests.{ne-eqb, lt-ltb, eqb-true, eqb-false}
 use Rattle.layout.specs.Pick.{pick}
 use Rattle.layout.specs.Text.{bytes}
 use Rattle.layout.specs.Rows.{rowCount, isOpening, isClosing, parent, row0000, row9900, row9999}
-use Rattle.rules.specs.Bytes.{lines, rowOf, rowOfWord, field, bars}
+use Rattle.rules.specs.Bytes.{lines, rows, rowOf, rowOfWord, field, bars}
 use Rattle.rules.specs.Order.{last, canStand, startsFile, startsBlock, endsFile, hasRoom, underParent, isData}
 use Rattle.rules.specs.Fields.{sameBytes, isText}
 use Rattle.rules.specs.Rules.{openedBy}
 use Rattle.rules.proofs.TestLaws.{split, and-left, and-false}
 use Rattle.rules.proofs.Stood.{Stood}
-use Rattle.rules.proofs.AllRows.{AllRows}
+use Rattle.rules.proofs.AllRows.{AllRows, stood-rows}
 use Rattle.layout.proofs.RoleLaws.{data-level}
+use Rattle.layout.proofs.PeriodLaws.{hasPeriod}
 use Rattle.rules.proofs.OpenLaws.{hangs-climb, ends-last}
 use Rattle.rules.proofs.OccurrenceLaws.{stamps, occurrences, stampAt, stamped, occurred, stamps-at}
 use Rattle.rules.proofs.OccurrenceLaws.{occurrences-at, under-stamps, parent-other}
-use Rattle.rules.proofs.StatedLaws.{Opened}
+use Rattle.rules.proofs.SoundLaws.{Sound}
+use Rattle.rules.proofs.StatedLaws.{Opened, opened}
 use Rattle.line.specs.Machine.{withData, withoutData, numberUnit, startsOf, endsOf, hangsOf, standsOf, entryOf, usedOf, roomOf}
 use Rattle.line.specs.Machine.{misplacedOf}
 use Rattle.line.proofs.StatementLaws.{statedBy, stated-some}
-use Rattle.line.proofs.HotOf.{says, saidBy, saysAt, lineSays, lastSays, says-early}
+use Rattle.line.proofs.HotOf.{says, saidBy, saysAt, lineSays, lastSays, says-early, pair-whole}
+use Rattle.line.proofs.PairLaws.{firstOf, laterOf, Dated, AllDated, all-dated, pair-large}
 
 -- 4: the row of the last line tells where a line can stand
 pub stands-is : (before : List ℕ) → Stood before → (r : ℕ) → r < rowCount → standsOf (last before) r ≡ canStand r before
@@ -56,28 +59,39 @@ says-text w e =
     (λ t. (rw t, rw (t, one-text w t)))
     (λ t. (rw t, rw t (sym (rw t at e))))
 
-line-says : (line : List ℕ) (before : List (List ℕ)) → Opened (line ∷ before)
+line-says : (line : List ℕ) (before : List (List ℕ)) → rowOf line < rowCount → Opened (line ∷ before) → Dated line
     → (eqb (lineSays line) withData ≡ openedBy "0" (line ∷ before)) × (eqb (lineSays line) withoutData ≡ openedBy "1" (line ∷ before))
 unfolding saysAt saidBy openedBy
-line-says line before o =
+line-says line before known o d =
     split (isOpening (rowOf line))
     (λ t. let q = says-text (field 2 line) (o .0 t) in (rw t (q .0), rw t (q .1)))
     (λ t. split (eqb (rowOf line) row9900)
     (λ s. let some = stated-some (field 3 line) in
     let said = rowOfWord (field 2 line) + numberUnit * statedBy (field 3 line) in
     (rw (t, s) (ne-eqb said withData (λ e. omega arith)), rw (t, s) (ne-eqb said withoutData (λ e. omega arith))))
-    (λ s. (rw (t, s), rw (t, s))))
+    (λ s. split (hasPeriod (rowOf line))
+    (λ p. let r = rowOf line in
+    let words = d p in
+    let said = pair-whole r known p (firstOf line) (laterOf line) in
+    let other = pair-large r (firstOf line) (laterOf line) (words .0) (words .1) in (
+      rw (t, s, p, said) (ne-eqb _ withData (λ e. other withData (omega arith) (omega arith) e)),
+      rw (t, s, p, said) (ne-eqb _ withoutData (λ e. other withoutData (omega arith) (omega arith) e)),
+    ))
+    (λ p. (rw (t, s, p), rw (t, s, p)))))
 
-last-says : (ls : List (List ℕ)) → Opened ls
+last-says : (ls : List (List ℕ)) → AllRows (map rowOf ls) → Opened ls → AllDated ls
     → (eqb (lastSays ls) withData ≡ openedBy "0" ls) × (eqb (lastSays ls) withoutData ≡ openedBy "1" ls)
 unfolding lastSays
-last-says [] o = unfold openedBy in (refl, refl)
-last-says (line ∷ before) o = line-says line before o
+last-says [] all o d = unfold openedBy in (refl, refl)
+last-says (line ∷ before) all o d = line-says line before (all .0) o (d .0)
 
-pub misplaced-is : (seen : List ℕ) → bars seen ≤ 1 → Opened (lines seen) → (r : ℕ)
+pub misplaced-is : (seen : List ℕ) → bars seen ≤ 1 → Sound seen → (r : ℕ)
     → misplacedOf (says seen) r ≡ (isData r && openedBy "1" (lines seen) || isClosing r && openedBy "0" (lines seen))
-unfolding misplacedOf
-misplaced-is seen h o r = let q = last-says (lines seen) o in rw (says-early seen h, q .0, q .1)
+unfolding misplacedOf rows
+misplaced-is seen h s r =
+    let ls = lines seen in
+    let q = last-says ls (stood-rows (map rowOf ls) (s .stood)) (opened seen s) (all-dated ls (s .stood) (s .passed)) in
+    rw (says-early seen h, q .0, q .1)
 
 -- 6: the two arrays tell how many lines stand under one parent line
 module _ (rows : List ℕ) where

@@ -24,16 +24,15 @@ use Rattle.rules.proofs.FaultLaws.{fault-field, fault-past, code-in, complete-l
 use Rattle.rules.proofs.OccurrenceLaws.{stamps, occurrences}
 use Rattle.rules.proofs.CleanLaws.{Clean, clean-clear, clear-incomplete}
 use Rattle.rules.proofs.SoundLaws.{Sound, sound, word-row-known}
-use Rattle.rules.proofs.StatedLaws.{opened}
 use Rattle.field.proofs.LengthLaws.{length-is, code-is}
 use Rattle.line.specs.Machine.{grownOf, wordRow, foundOf, codeBarOf, fieldBarOf, barOf}
-use Rattle.line.specs.Machine.{controlOf, inFieldOf, pastOf, startOf, stepOf}
+use Rattle.line.specs.Machine.{Asked, controlOf, inFieldOf, pastOf, startOf, stepOf}
 use Rattle.line.specs.declared.hot.Hot.{Hot}
 use Rattle.line.specs.declared.step.Step.{Step}
 use Rattle.line.specs.declared.step.Step.the-variants.{Next, Broken}
 use Rattle.line.proofs.HotOf.{hotOf, hot-grown, hot-first, hot-coded, hot-moved, hot-ended}
 use Rattle.line.proofs.OrderSim.{stands-is, misplaced-is, room-is}
-use Rattle.line.proofs.FieldSim.{holds, foundAt, found-is, opening-told, field-fault-is}
+use Rattle.line.proofs.FieldSim.{foundAt, Answers, found-is, opening-told, field-fault-is}
 
 -- the step that the rules ask for
 abbrev stepFor : Fault → Hot → Step
@@ -86,7 +85,7 @@ module _ (seen : List ℕ) (e : bars seen ≡ 1) where
       split (eqb r none) (λ t. rw t)
       (λ t. let row = known-row t in
       let room = room-is (rows seen) r row (stood-rows (rows seen) (s .stood)) in
-      rw (t, stands-is (rows seen) (s .stood) r row, misplaced-is seen (omega arith) (opened seen s) r, room)
+      rw (t, stands-is (rows seen) (s .stood) r row, misplaced-is seen (omega arith) s r, room)
       (split (canStand r (rows seen))
       (λ c. rw c
       (split (isData r && openedBy "1" (lines seen) || isClosing r && openedBy "0" (lines seen)) (λ m. rw m)
@@ -94,32 +93,32 @@ module _ (seen : List ℕ) (e : bars seen ≡ 1) where
       (λ c. rw c)))
 
 -- The bar after a later field.
-field-does : (seen : List ℕ) → 2 ≤ bars seen → bars seen ≤ fields (rowAtHand seen) → Sound seen
-    → fieldBarOf (hotOf seen) (foundOf (hotOf seen) (holds seen)) ≡ stepFor (fieldFault seen) (hotOf (bar ∷ seen))
+field-does : (seen : List ℕ) (a : Asked) → Answers seen a → 2 ≤ bars seen → bars seen ≤ fields (rowAtHand seen) → Sound seen
+    → fieldBarOf (hotOf seen) (foundOf (hotOf seen) a) ≡ stepFor (fieldFault seen) (hotOf (bar ∷ seen))
 unfolding fieldBarOf
-field-does seen late within s =
-    rw (found-is seen late s within, field-fault-is seen)
+field-does seen a answers late within s =
+    rw (found-is seen late s within a answers, field-fault-is seen)
     (split (eqb (foundAt seen) 0)
     (λ t. rw (t, hot-moved seen late (s .known late .0) within (opening-told seen (eqb-true (foundAt seen) 0 t))))
     (λ t. rw t))
 
 -- Past the last field.
-end-does : (seen : List ℕ) (b : ℕ) → 3 ≤ bars seen → fields (rowAtHand seen) < bars seen
+end-does : (seen : List ℕ) (b : ℕ) → rowAtHand seen < rowCount → 3 ≤ bars seen → fields (rowAtHand seen) < bars seen
     → pastOf (hotOf seen) b ≡ stepFor (endFault seen b) (hotOf (b ∷ seen))
 unfolding pastOf isEndByte
-end-does seen b h past =
+end-does seen b known h past =
     rw (empty-is seen)
     (split (empty (word seen))
     (λ t. rw t
     (split (eqb b CR)
     (λ c. rw (c, eqb-true b CR c, hot-grown seen CR refl refl))
     (λ c. rw c (split (eqb b LF) (λ d. rw d) (λ d. rw d)))))
-    (λ t. rw t (split (eqb b LF) (λ c. rw (c, eqb-true b LF c, hot-ended seen h past)) (λ c. rw c))))
+    (λ t. rw t (split (eqb b LF) (λ c. rw (c, eqb-true b LF c, hot-ended seen known h past)) (λ c. rw c))))
 
 -- A byte of a field, whichever it is.
-module _ (seen : List ℕ) (b : ℕ) (s : Sound seen) where
+module _ (seen : List ℕ) (b : ℕ) (s : Sound seen) (a : Asked) (answers : Answers seen a) where
   abbrev inAt : Step
-  inAt = inFieldOf (hotOf seen) (stamps (rows seen)) (occurrences (rows seen)) (holds seen) b
+  inAt = inFieldOf (hotOf seen) (stamps (rows seen)) (occurrences (rows seen)) a b
 
   code-step : bars seen ≡ 1 → Does seen b inAt
   unfolding inFieldOf barOf
@@ -134,7 +133,7 @@ module _ (seen : List ℕ) (b : ℕ) (s : Sound seen) where
   field-step h i =
       rw (fault-field seen b h i)
       (split (eqb b bar)
-      (λ t. rw (t, eqb-true b bar t, ne-eqb (bars seen) 1 (λ z. omega arith)) (field-does seen h (in-fields seen i) s))
+      (λ t. rw (t, eqb-true b bar t, ne-eqb (bars seen) 1 (λ z. omega arith)) (field-does seen a answers h (in-fields seen i) s))
       (λ t. rw t (byte-does seen b t)))
 
 -- After 9999's LF no byte passes, so that the file has ended only at the start of a line.
@@ -149,20 +148,20 @@ finished-start (b ∷ seen) c f =
     (λ t. both f (finished-on seen b t ∙ clear-incomplete seen b (clean-clear seen b c)))
 
 -- The step, by where the byte stands.
-module _ (seen : List ℕ) (b : ℕ) (c : Clean seen) where
+module _ (seen : List ℕ) (b : ℕ) (c : Clean seen) (a : Asked) (answers : Answers seen a) where
   s : Sound seen
   s = sound seen c
 
   abbrev stepAt : Step
   stepAt =
       pick (eqb (bars seen) 0) (startOf (hotOf seen) b)
-      (pick (ltb (fields (rowAtHand seen)) (bars seen)) (pastOf (hotOf seen) b) (inAt seen b s))
+      (pick (ltb (fields (rowAtHand seen)) (bars seen)) (pastOf (hotOf seen) b) (inAt seen b s a answers))
 
   over : complete seen ≡ true → stepAt ≡ Broken 15 0
   unfolding startOf
   over f = rw (eq-eqb (bars seen) 0 (finished-start seen c f), sym (complete-last seen) ∙ f)
 
-  in-step : 1 ≤ bars seen → inField seen ≡ true → stepAt ≡ inAt seen b s
+  in-step : 1 ≤ bars seen → inField seen ≡ true → stepAt ≡ inAt seen b s a answers
   in-step h i = rw (ne-eqb (bars seen) 0 (λ z. omega arith), le-ltb (fields (rowAtHand seen)) (bars seen) (in-fields seen i))
 
   goes-on : complete seen ≡ false → Does seen b stepAt
@@ -170,14 +169,14 @@ module _ (seen : List ℕ) (b : ℕ) (c : Clean seen) where
     where
       go : Place seen → Does seen b stepAt
       go (starts z) = rw (eq-eqb (bars seen) 0 z) (start-does seen b z f)
-      go (codes e) = in-step (omega arith) (code-in seen e) ∙ code-step seen b s e
-      go (fills h i) = in-step (omega arith) i ∙ field-step seen b s h i
+      go (codes e) = in-step (omega arith) (code-in seen e) ∙ code-step seen b s a answers e
+      go (fills h i) = in-step (omega arith) i ∙ field-step seen b s a answers h i
       go (ends h p) =
           let l = past-fields seen p in
           rw (ne-eqb (bars seen) 0 (λ z. omega arith), lt-ltb (fields (rowAtHand seen)) (bars seen) l, fault-past seen b p)
-          (end-does seen b (omega (arith, fields-two (rowAtHand seen) (s .known h .0))) l)
+          (end-does seen b (s .known h .0) (omega (arith, fields-two (rowAtHand seen) (s .known h .0))) l)
 
-  pub step-is : stepOf (hotOf seen) (stamps (rows seen)) (occurrences (rows seen)) (holds seen) b
+  pub step-is : stepOf (hotOf seen) (stamps (rows seen)) (occurrences (rows seen)) a b
       ≡ stepFor (fault seen b) (hotOf (b ∷ seen))
   unfolding stepOf fault faultBy full
   step-is =

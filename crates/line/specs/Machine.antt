@@ -2,18 +2,20 @@
 use mathlib.Core.Bool.{Bool, not, _&&_, _||_}
 use mathlib.Core.Path.{_≡_}
 use mathlib.Core.List.{List}
-use Prim.Native.Nat.{ℕ, suc, _+_, _-_, _*_, _%_, _≤_, _<_}
+use Prim.Native.Nat.{ℕ, suc, _+_, _-_, _*_, _%_, _≤_, _<_, min}
 use lib.Dec.{eqb, leb, ltb}
 use lib.ListN.{getD}
 use Rattle.layout.specs.Pick.{pick}
 use Rattle.layout.specs.Lists.{allBelow}
 use Rattle.layout.specs.Rows.{rowCount, none, anyNumber, level, limit, fields, mostFields, block}
 use Rattle.layout.specs.Rows.{parent, isOpening, isClosing, row0000, row9900, row9990, row9999, rowOfCode}
-use Rattle.layout.specs.Kind.{opens}
+use Rattle.layout.specs.Kind.{date, opens}
 use Rattle.layout.specs.Kinds.{kind}
+use Rattle.layout.specs.Periods.{periodCount, periodOf, laterDate}
 use Rattle.layout.specs.Packed.{rowNumbers, parentColumn, packedKinds, startColumn, slotTable, codeClass, kindNumber, mostKind}
 use Rattle.rules.specs.Bytes.{bar, CR, LF, isEndByte}
 use Rattle.rules.specs.Order.{isData}
+use Rattle.rules.specs.Periods.{mostPairs}
 use Rattle.layout.specs.Climb.{climb}
 use Rattle.rules.specs.Rules.{byteLimit}
 use Rattle.field.specs.Streaming.{cap, emptyField, wrongAt, withByte, faultOf}
@@ -41,7 +43,7 @@ abbrev pub withoutData : ℕ
 withoutData = 2
 
 -- what a 9900 line says: the row of the code in its field 2, and once field 3 has ended, so many times one more than the number there,
--- in which no number, and one that the cap has cut, count as one that can't be true. Any other line says 0.
+-- in which no number, and one that the cap has cut, count as one that can't be true.
 abbrev pub numberUnit : ℕ
 numberUnit = 256
 
@@ -50,6 +52,11 @@ untrue = cap + 1
 
 abbrev pub mostSays : ℕ
 mostSays = numberUnit * (untrue + 1) - 1
+
+-- what a line of a row that has a period says: the digits of its first date, and once the later one has ended, the sixteen digits of
+-- both; an empty date counts as 0. Any other line says 0.
+abbrev pub dateUnit : ℕ
+dateUnit = 100000000
 
 -- the entries of the rows are at most m
 abbrev pub Below : ℕ → List ℕ → Type 0
@@ -190,10 +197,17 @@ numberOf f = pick (eqb (f .length) 0) untrue (f .value + 1)
 unfoldable pub statesOf : Hot → ℕ
 statesOf h = pick (eqb (h .bars) 2) (wordRow h) (h .says % numberUnit + numberUnit * numberOf (h .field))
 
+-- the bar after a date of a row that has a period
+unfoldable pub datesOf : Hot → ℕ
+datesOf h = h .says % dateUnit * dateUnit + h .field .value
+
+unfoldable pub datedOf : Hot → ℕ
+datedOf h = pick (ltb (periodOf (h .row)) periodCount) (datesOf h) (h .says)
+
 unfoldable pub saysOf : Hot → ℕ
 saysOf h =
     pick (eqb (h .kind) (kindNumber opens)) (pick (eqb (h .field .value) 0) withData withoutData)
-    (pick (eqb (h .row) row9900) (statesOf h) (h .says))
+    (pick (eqb (h .kind) (kindNumber date)) (datedOf h) (pick (eqb (h .row) row9900) (statesOf h) (h .says)))
 
 -- What the 9900 lines state of each row, and of no row: 0 for nothing, else one more than the number. Two statements of one row stay
 -- one, or can't both be true.
@@ -210,28 +224,69 @@ holdsOf counts stated r = eqb (getD stated r 0) 0 || eqb (getD stated r 0) (occu
 unfoldable pub allHoldOf : List ℕ → List ℕ → Bool
 allHoldOf counts stated = allBelow (suc rowCount) (holdsOf counts stated)
 
--- the rule that the field at hand breaks, or 0; at the bar after field 2 of 9999, if it breaks none, all that is stated must hold
-unfoldable pub foundOf : Hot → Bool → ℕ
-foundOf h holds =
+-- The pairs of dates, in the order of the rows that have a period, and of their lines: of each row there is room for mostPairs, and as
+-- many are kept as it has lines.
+abbrev pub pairStart : ℕ → ℕ
+pairStart r = mostPairs * periodOf r
+
+abbrev pub pairCount : ℕ
+pairCount = mostPairs * periodCount
+
+unfoldable pub pairsKept : List ℕ → ℕ → ℕ
+pairsKept counts r = min mostPairs (entryOf counts r)
+
+-- n numbers from this place on, none of which is v
+unfoldable pub noneIs : List ℕ → ℕ → ℕ → ℕ → Bool
+noneIs pairs place n v = allBelow n (λ i. not (eqb (getD pairs (place + i) 0) v))
+
+unfoldable pub repeatedOf : Hot → List ℕ → List ℕ → Bool
+repeatedOf h counts pairs = not (noneIs pairs (pairStart (h .row)) (pairsKept counts (h .row)) (datesOf h))
+
+unfoldable pub crowdedOf : Hot → List ℕ → Bool
+crowdedOf h counts = leb mostPairs (entryOf counts (h .row))
+
+-- what a bar may ask of the lines before: whether all that is stated holds, whether the pair of dates is a repeated one, and whether
+-- there is no room for one more
+pub record Asked : Type 0 where
+  pub holds : Bool
+  pub repeated : Bool
+  pub crowded : Bool
+
+abbrev pub askedOf : Hot → List ℕ → List ℕ → List ℕ → Asked
+askedOf h counts stated pairs =
+    record { holds = allHoldOf counts stated; repeated = repeatedOf h counts pairs; crowded = crowdedOf h counts }
+
+-- the rule that the lines before make the field break, or 0: at the bar after the later date, and after field 2 of 9999
+unfoldable pub pairRuleOf : Hot → Bool → Bool → ℕ
+pairRuleOf h repeated crowded = pick (eqb (h .bars) (laterDate (h .row))) (pick repeated 20 (pick crowded 21 0)) 0
+
+unfoldable pub askedRuleOf : Hot → Asked → ℕ
+askedRuleOf h a =
+    pick (eqb (h .kind) (kindNumber date)) (pairRuleOf h (a .repeated) (a .crowded))
+    (pick (eqb (h .row) row9999 && not (a .holds)) 23 0)
+
+-- the rule that the field at hand breaks, or 0: by itself, or else by the lines before
+unfoldable pub foundOf : Hot → Asked → ℕ
+foundOf h a =
     let n = faultOf (h .kind) (h .field) (dueOf h) in
-    pick (eqb n 0 && eqb (h .row) row9999 && not holds) 23 n
+    pick (eqb n 0) (askedRuleOf h a) n
 
 unfoldable pub fieldBarOf : Hot → ℕ → Step
 fieldBarOf h n =
     pick (eqb n 0) (Next (movedOf h (h .row) (h .fields) (kindNumber (kind (h .row) (h .bars + 1))) (saysOf h)))
     (Broken n (h .bars))
 
-unfoldable pub barOf : Hot → List ℕ → List ℕ → Bool → Step
-barOf h stamps occurrences holds =
-    pick (eqb (h .bars) 1) (codeBarOf h stamps occurrences (wordRow h)) (fieldBarOf h (foundOf h holds))
+unfoldable pub barOf : Hot → List ℕ → List ℕ → Asked → Step
+barOf h stamps occurrences a =
+    pick (eqb (h .bars) 1) (codeBarOf h stamps occurrences (wordRow h)) (fieldBarOf h (foundOf h a))
 
 -- A byte in a field, past the last field, and at a line's start.
 unfoldable pub controlOf : Hot → ℕ → Step
 controlOf h b = pick (eqb (h .field .length) 0 && isEndByte b) (Broken 7 (h .bars)) (Broken 2 (h .bars))
 
-unfoldable pub inFieldOf : Hot → List ℕ → List ℕ → Bool → ℕ → Step
-inFieldOf h stamps occurrences holds b =
-    pick (eqb b bar) (barOf h stamps occurrences holds) (pick (ltb b 32) (controlOf h b) (Next (grownOf h b)))
+unfoldable pub inFieldOf : Hot → List ℕ → List ℕ → Asked → ℕ → Step
+inFieldOf h stamps occurrences a b =
+    pick (eqb b bar) (barOf h stamps occurrences a) (pick (ltb b 32) (controlOf h b) (Next (grownOf h b)))
 
 unfoldable pub pastOf : Hot → ℕ → Step
 pastOf h b =
@@ -244,12 +299,12 @@ startOf h b =
     pick (eqb (h .last) row9999) (Broken 15 0)
     (pick (eqb b bar) (Next (movedOf h (h .row) (h .fields) codeKind (h .says))) (Broken 1 0))
 
--- (whether what is stated holds is asked at one bar of the file only)
-unfoldable pub stepOf : Hot → List ℕ → List ℕ → Bool → ℕ → Step
-stepOf h stamps occurrences holds b =
+-- (what is asked of the lines before is asked at a few bars only)
+unfoldable pub stepOf : Hot → List ℕ → List ℕ → Asked → ℕ → Step
+stepOf h stamps occurrences a b =
     pick (leb byteLimit (h .bytes)) (Broken 16 0)
     (pick (eqb (h .bars) 0) (startOf h b)
-    (pick (ltb (h .fields) (h .bars)) (pastOf h b) (inFieldOf h stamps occurrences holds b)))
+    (pick (ltb (h .fields) (h .bars)) (pastOf h b) (inFieldOf h stamps occurrences a b)))
 
 -- The position in the field that the refusal by this rule gives, at the state before the refusing byte.
 unfoldable pub positionOf : Hot → ℕ → ℕ

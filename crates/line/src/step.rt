@@ -8,7 +8,7 @@ ghost use Rattle.layout.specs.Pick.{pick};
 ghost use Rattle.layout.specs.Kinds.{kind};
 ghost use Rattle.rules.specs.Bytes.{isEndByte};
 ghost use Rattle.rules.specs.Rules.{byteLimit};
-ghost use Rattle.line.specs.Machine.{Below, HotFit, Tables, wordRow, codeBarOf, dueOf, statesOf, saysOf, allHoldOf};
+ghost use Rattle.line.specs.Machine.{Below, HotFit, Tables, wordRow, codeBarOf, dueOf, statesOf, saysOf, askedOf};
 ghost use Rattle.line.specs.Machine.{foundOf, fieldBarOf, barOf, controlOf, pastOf, startOf, stepOf, positionOf};
 use crate::hot::CODE_KIND;
 use crate::hot::Hot;
@@ -22,10 +22,14 @@ use crate::order::WITHOUT_DATA;
 use crate::order::has_room;
 use crate::order::misplaced;
 use crate::order::stands;
+use crate::periods::PAIRS;
+use crate::periods::dated;
+use crate::periods::pair_rule;
 use crate::statements::NUMBER_UNIT;
 use crate::statements::all_hold;
 use crate::statements::number_of;
 use field::bytes::CLASS_COUNT;
+use field::bytes::CLASS_DATE;
 use field::bytes::CLASS_OPENS;
 use field::bytes::SIZE_UNIT;
 use field::bytes::wrong_at;
@@ -91,6 +95,9 @@ const NO_FIELD: u64 = layout::kinds::NO_FIELD as u64;
 
 // The kind of field 2 of an opening: one digit.
 const OPENS_KIND: u64 = CLASS_OPENS + SIZE_UNIT;
+
+// The kind of a date: eight digits.
+const DATE_KIND: u64 = CLASS_DATE + SIZE_UNIT * 8;
 
 pub enum Step {
     Next(Hot),
@@ -190,17 +197,26 @@ fn due_of_count(rows: &[[u64; 4]; ENTRIES], h: Hot) -> u64
     0
 }
 
-// The rule that the field at hand breaks, or 0; at field 2 of 9999 all that is stated must be true. (`fault` is called once, and so
-// stands in the byte loop itself.)
-fn found(rows: &[[u64; 4]; ENTRIES], h: Hot, counts: &[u64; ROWS], stated: &[u64; ENTRIES]) -> u64
+// The rule that the field at hand breaks, or 0: by itself, or by the lines before. Of a pair of dates these are asked, and at field 2 of
+// 9999 all that is stated must be true. (`fault` is called once, and so stands in the byte loop itself.)
+fn found(
+    rows: &[[u64; 4]; ENTRIES],
+    h: Hot,
+    counts: &[u64; ROWS],
+    stated: &[u64; ENTRIES],
+    pairs: &[u64; PAIRS],
+) -> u64
     requires { ⌜ HotFit h ⌝ }
-    requires { ⌜ now rows ≡ rowNumbers ⌝ }
+    requires { ⌜ (now rows ≡ rowNumbers) × (1 ≤ h .bars) ⌝ }
     requires { ⌜ Below (byteLimit + 1) (now counts) ⌝ }
-    ensures { λ n. ⌜ n ≡ foundOf h (allHoldOf (now (counts .entry)) (now (stated .entry))) ⌝ }
+    ensures { λ n. ⌜ n ≡ foundOf h (askedOf h (now (counts .entry)) (now (stated .entry)) (now (pairs .entry))) ⌝ }
 {
     let n = fault(h.kind, h.field, due_of_count(rows, h));
     if n != 0 {
         return n;
+    }
+    if h.kind == DATE_KIND {
+        return pair_rule(rows, h, counts, pairs);
     }
     if h.row != ROW_9999 {
         return 0;
@@ -224,7 +240,7 @@ fn states(rows: &[[u64; 4]; ENTRIES], slots: &[usize; SLOTS], h: Hot) -> u64
     h.says % NUMBER_UNIT + NUMBER_UNIT * number_of(h.field)
 }
 
-// Field 2 of an opening says whether data is to come, a 9900 line how often a code occurs.
+// Field 2 of an opening says whether data is to come, a period's line its dates, a 9900 line how often a code occurs.
 fn says(rows: &[[u64; 4]; ENTRIES], slots: &[usize; SLOTS], h: Hot) -> u64
     requires { ⌜ HotFit h ⌝ }
     requires { ⌜ (now rows ≡ rowNumbers) × (now slots ≡ slotTable) ⌝ }
@@ -237,6 +253,9 @@ fn says(rows: &[[u64; 4]; ENTRIES], slots: &[usize; SLOTS], h: Hot) -> u64
         } else {
             WITHOUT_DATA
         };
+    }
+    if h.kind == DATE_KIND {
+        return dated(rows, h);
     }
     if h.row == ROW_9900 {
         return states(rows, slots, h);
@@ -283,12 +302,13 @@ fn bar(
     occurrences: &[u64; ROWS],
     counts: &[u64; ROWS],
     stated: &[u64; ENTRIES],
+    pairs: &[u64; PAIRS],
 ) -> Step
     requires { ⌜ HotFit h ⌝ }
     requires { ⌜ Tables (now rows) (now parents) (now kinds) (now starts) (now slots) ⌝ }
     requires { ⌜ Below (byteLimit + 1) (now counts) ⌝ }
     requires { ⌜ 1 ≤ h .bars ⌝ }
-    ensures { λ t. ⌜ t ≡ barOf h (now (stamps .entry)) (now (occurrences .entry)) (allHoldOf (now (counts .entry)) (now (stated .entry))) ⌝ }
+    ensures { λ t. ⌜ t ≡ barOf h (now (stamps .entry)) (now (occurrences .entry)) (askedOf h (now (counts .entry)) (now (stated .entry)) (now (pairs .entry))) ⌝ }
 {
     if h.bars == 1 {
         return code_bar(
@@ -308,7 +328,7 @@ fn bar(
         kinds,
         starts,
         slots,
-        found(rows, h, counts, stated),
+        found(rows, h, counts, stated, pairs),
     )
 }
 
@@ -379,12 +399,13 @@ pub fn judge(
     occurrences: &[u64; ROWS],
     counts: &[u64; ROWS],
     stated: &[u64; ENTRIES],
+    pairs: &[u64; PAIRS],
     b: u8,
 ) -> Step
     requires { ⌜ HotFit h ⌝ }
     requires { ⌜ Tables (now rows) (now parents) (now kinds) (now starts) (now slots) ⌝ }
     requires { ⌜ Below (byteLimit + 1) (now counts) ⌝ }
-    ensures { λ t. ⌜ t ≡ stepOf h (now (stamps .entry)) (now (occurrences .entry)) (allHoldOf (now (counts .entry)) (now (stated .entry))) b ⌝ }
+    ensures { λ t. ⌜ t ≡ stepOf h (now (stamps .entry)) (now (occurrences .entry)) (askedOf h (now (counts .entry)) (now (stated .entry)) (now (pairs .entry))) b ⌝ }
 {
     if BYTE_LIMIT <= h.bytes {
         return Step::Broken(TOO_LONG, 0);
@@ -407,6 +428,7 @@ pub fn judge(
             occurrences,
             counts,
             stated,
+            pairs,
         );
     }
     if b < BLANK {

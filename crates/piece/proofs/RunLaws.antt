@@ -9,8 +9,8 @@ use lib.ListN.{length, getD, drop}
 use lib.Seq.{drop-cons, drop-length}
 use Rattle.rules.specs.Rules.{byteLimit}
 use Rattle.line.specs.Machine.{Below, HotFit, mostBars}
-use Rattle.piece.specs.Piece.{countsWith, stampsWith, occurrencesWith, totalsWith, statedWith, tallyOf, tallyWith, openOf}
-use Rattle.piece.specs.Piece.{stoppedOf, onStep, stepWith, runOf}
+use Rattle.piece.specs.Piece.{countsWith, stampsWith, occurrencesWith, totalsWith, statedWith, pairsWith, tallyOf}
+use Rattle.piece.specs.Piece.{tallyWith, openOf, stoppedOf, onStep, stepWith, runOf}
 use Rattle.state.specs.Ranges.{isRule, Held}
 use Rattle.piece.specs.Piece.{AllBytes}
 use Rattle.line.specs.declared.hot.Hot.{Hot}
@@ -76,17 +76,17 @@ module _ {p : List ℕ} {h₀ : Hot} {t₀ : Tally} {h : Hot} {t : Tally} {i : �
   pub going-end : length p ≤ i → (k : Tally) → k ≡ t → (r : Checked) → r ≡ openOf h k → r ≡ runOf h₀ t₀ p
   going-end l k kept r is = is ∙ rw kept (sym (g .runs ∙ run-end h t p i l (g .within)))
 
-pub going-next : {p : List ℕ} {h₀ : Hot} {t₀ : Tally} {h : Hot} {cs ss os bs ds : List ℕ} {i : ℕ}
-    → Going p h₀ t₀ h (tallyOf cs ss os bs ds) i → i < length p → getD p i 0 < 256 → (n : Hot)
-    → stepWith h (tallyOf cs ss os bs ds) (getD p i 0) ≡ Next n
-    → (cs′ ss′ os′ bs′ ds′ : List ℕ) → cs′ ≡ countsWith h (getD p i 0) cs → ss′ ≡ stampsWith h (n .lines) (getD p i 0) ss
+pub going-next : {p : List ℕ} {h₀ : Hot} {t₀ : Tally} {h : Hot} {cs ss os bs ds ps : List ℕ} {i : ℕ}
+    → Going p h₀ t₀ h (tallyOf cs ss os bs ds ps) i → i < length p → getD p i 0 < 256 → (n : Hot)
+    → stepWith h (tallyOf cs ss os bs ds ps) (getD p i 0) ≡ Next n
+    → (cs′ ss′ os′ bs′ ds′ ps′ : List ℕ) → cs′ ≡ countsWith h (getD p i 0) cs → ss′ ≡ stampsWith h (n .lines) (getD p i 0) ss
     → os′ ≡ occurrencesWith h (getD p i 0) ss os → bs′ ≡ totalsWith h (getD p i 0) bs → ds′ ≡ statedWith h (getD p i 0) ds
-    → Going p h₀ t₀ n (tallyOf cs′ ss′ os′ bs′ ds′) (i + 1)
-going-next {p} {h₀} {t₀} {h} {cs} {ss} {os} {bs} {ds} {i} g l byte n e cs′ ss′ os′ bs′ ds′ ec es eo eb ed =
+    → ps′ ≡ pairsWith h (getD p i 0) cs ps → Going p h₀ t₀ n (tallyOf cs′ ss′ os′ bs′ ds′ ps′) (i + 1)
+going-next {p} {h₀} {t₀} {h} {cs} {ss} {os} {bs} {ds} {ps} {i} g l byte n e cs′ ss′ os′ bs′ ds′ ps′ ec es eo eb ed ep =
     record {
-      runs = g .runs ∙ run-next h (tallyOf cs ss os bs ds) p i l n e ∙ rw (ec, es, eo, eb, ed);
+      runs = g .runs ∙ run-next h (tallyOf cs ss os bs ds ps) p i l n e ∙ rw (ec, es, eo, eb, ed, ep);
       within = omega arith;
-      held = rw (ec, es, eo, eb, ed) (held-next h n (tallyOf cs ss os bs ds) (getD p i 0) (g .held) byte e);
+      held = rw (ec, es, eo, eb, ed, ep) (held-next h n (tallyOf cs ss os bs ds ps) (getD p i 0) (g .held) byte e);
     }
 
 -- what is kept of each row and of each block is small

@@ -1,7 +1,7 @@
 -- A step keeps within the ranges: from a hot part in range it goes on to one in range, or breaks a rule at a field of
 -- the line.
 use mathlib.Core.Path.{_≡_, refl}
-use mathlib.Core.Bool.{Bool, true, false, not, _&&_}
+use mathlib.Core.Bool.{Bool, true, false, _&&_}
 use mathlib.Core.List.{List}
 use Prim.Native.Nat.{ℕ, _+_, _*_, _%_, _<_, _≤_}
 use native.Mathlib.Nat.{mod-lt}
@@ -9,15 +9,17 @@ use native.Mathlib.Omega.{arith}
 use lib.Dec.{T, eqb, leb, ltb, leb→le, lit≤}
 use borrow.Author.Tests.{eqb-true, eqb-false, le-leb, leb-false, ltb-false}
 use Rattle.layout.specs.Pick.{pick}
-use Rattle.layout.specs.Rows.{rowCount, none, row9999, fields, mostFields, isClosing}
+use Rattle.layout.specs.Rows.{rowCount, none, fields, mostFields, isClosing}
 use Rattle.layout.specs.Kinds.{kind}
 use Rattle.layout.specs.Packed.{kindNumber, mostKind}
+use Rattle.layout.specs.Periods.{periodCount, periodOf}
 use Rattle.rules.specs.Rules.{byteLimit}
 use Rattle.rules.proofs.TestLaws.{split, pick-le}
 use Rattle.field.specs.Streaming.{FieldFit, cap, wrongAt, emptyFault, digitsFault, contentFault, numberFault, textFault, faultOf}
 use Rattle.field.specs.declared.bytes.Field.{Field}
 use Rattle.line.specs.Machine.{HotFit, judgedWith, mostBars, numberUnit, mostSays, grownOf, movedOf, endedOf, sinceOf, codeBarOf}
-use Rattle.line.specs.Machine.{standsOf, roomOf, misplacedOf, wordRow, dueOf, numberOf, statesOf, saysOf, foundOf, fieldBarOf, barOf}
+use Rattle.line.specs.Machine.{standsOf, roomOf, misplacedOf, wordRow, numberOf, statesOf, datesOf, datedOf, saysOf, fieldBarOf}
+use Rattle.line.specs.Machine.{dateUnit, Asked, pairRuleOf, askedRuleOf, foundOf, barOf}
 use Rattle.line.specs.Machine.{controlOf, inFieldOf, pastOf, startOf, stepOf, positionOf}
 use Rattle.state.specs.Ranges.{isRule, positionRanged}
 use Rattle.line.specs.declared.hot.Hot.{Hot}
@@ -61,12 +63,9 @@ fault-rule : (kind : ℕ) (f : Field) (due : ℕ) → OfRule (faultOf kind f due
 unfolding faultOf
 fault-rule kind f due = search (pick-rule, text-rule, number-rule) depth 8
 
-found-rule : (h : Hot) (holds : Bool) → OfRule (foundOf h holds)
-unfolding foundOf
-found-rule h holds =
-    let n = faultOf (h .kind) (h .field) (dueOf h) in
-    pick-rule (eqb n 0 && eqb (h .row) row9999 && not holds) 23 n refl
-    (fault-rule (h .kind) (h .field) (dueOf h))
+found-rule : (h : Hot) (a : Asked) → OfRule (foundOf h a)
+unfolding foundOf askedRuleOf pairRuleOf
+found-rule h a = search (pick-rule, fault-rule) depth 8
 
 -- where a step leads
 pub data Leads (h : Hot) : Step → Type 0 where
@@ -169,9 +168,16 @@ module _ (h : Hot) (f : HotFit h) (small : h .bytes < byteLimit) where
       pick-le (eqb (h .bars) 2) (wordRow h) (h .says % numberUnit + numberUnit * numberOf (h .field)) mostSays
       (omega (arith, word-row-le h)) (omega (arith, row, number-most (h .field) (f .value)))
 
+  dated-le : datedOf h ≤ mostSays
+  unfolding datedOf datesOf
+  dated-le =
+      let first = mod-lt (h .says) {m = dateUnit} (omega arith) in
+      let both : h .says % dateUnit * dateUnit + h .field .value ≤ mostSays = omega (arith, f .value) in
+      pick-le (ltb (periodOf (h .row)) periodCount) _ (h .says) mostSays both (f .says)
+
   says-le : saysOf h ≤ mostSays
   unfolding saysOf
-  says-le = let le = f .says in search (pick-le, lit≤, states-le) depth 8
+  says-le = let le = f .says in search (pick-le, lit≤, states-le, dated-le) depth 8
 
   -- in a field of the line
   module _ (room : h .bars ≤ mostFields) where
@@ -207,22 +213,22 @@ module _ (h : Hot) (f : HotFit h) (small : h .bytes < byteLimit) where
             (kind-most (h .row) (h .bars + 1)) says-le
         go false e = stops {rule = n} {field = h .bars} (rw e at found) (f .bars)
 
-    bar-leads : 1 ≤ h .bars → (ss os : List ℕ) (holds : Bool) → Leads h (barOf h ss os holds)
+    bar-leads : 1 ≤ h .bars → (ss os : List ℕ) (a : Asked) → Leads h (barOf h ss os a)
     unfolding barOf
-    bar-leads one ss os holds = go (eqb (h .bars) 1) refl
+    bar-leads one ss os a = go (eqb (h .bars) 1) refl
       where
         go : (t : Bool) → eqb (h .bars) 1 ≡ t
-            → Leads h (pick t (codeBarOf h ss os (wordRow h)) (fieldBarOf h (foundOf h holds)))
+            → Leads h (pick t (codeBarOf h ss os (wordRow h)) (fieldBarOf h (foundOf h a)))
         go true e = code-leads ss os (wordRow h) (word-row-le h)
-        go false e = let other = eqb-false (h .bars) 1 e in field-leads (omega arith) _ (found-rule h holds)
+        go false e = let other = eqb-false (h .bars) 1 e in field-leads (omega arith) _ (found-rule h a)
 
     control-leads : (b : ℕ) → Leads h (controlOf h b)
     unfolding controlOf
     control-leads b = search (pick-leads, stops-here) depth 8
 
-    in-leads : 1 ≤ h .bars → (ss os : List ℕ) (holds : Bool) (b : ℕ) → b < 256 → Leads h (inFieldOf h ss os holds b)
+    in-leads : 1 ≤ h .bars → (ss os : List ℕ) (a : Asked) (b : ℕ) → b < 256 → Leads h (inFieldOf h ss os a b)
     unfolding inFieldOf
-    in-leads one ss os holds b byte = search (pick-leads, bar-leads, control-leads, grown-leads) depth 8
+    in-leads one ss os a b byte = search (pick-leads, bar-leads, control-leads, grown-leads) depth 8
 
     start-leads : h .bars ≡ 0 → (b : ℕ) → Leads h (startOf h b)
     unfolding startOf
@@ -237,28 +243,28 @@ module _ (h : Hot) (f : HotFit h) (small : h .bytes < byteLimit) where
   unfolding pastOf
   past-leads b byte = search (pick-leads, stops-at, stops-here, grown-leads, ended-leads) depth 8
 
-  line-leads : (ss os : List ℕ) (holds : Bool) (b : ℕ) → b < 256
-      → Leads h (pick (eqb (h .bars) 0) (startOf h b) (pick (ltb (h .fields) (h .bars)) (pastOf h b) (inFieldOf h ss os holds b)))
-  line-leads ss os holds b byte = go (eqb (h .bars) 0) (ltb (h .fields) (h .bars)) refl refl
+  line-leads : (ss os : List ℕ) (a : Asked) (b : ℕ) → b < 256
+      → Leads h (pick (eqb (h .bars) 0) (startOf h b) (pick (ltb (h .fields) (h .bars)) (pastOf h b) (inFieldOf h ss os a b)))
+  line-leads ss os a b byte = go (eqb (h .bars) 0) (ltb (h .fields) (h .bars)) refl refl
     where
       go : (t u : Bool) → eqb (h .bars) 0 ≡ t → ltb (h .fields) (h .bars) ≡ u
-          → Leads h (pick t (startOf h b) (pick u (pastOf h b) (inFieldOf h ss os holds b)))
+          → Leads h (pick t (startOf h b) (pick u (pastOf h b) (inFieldOf h ss os a b)))
       go true u e d = let z = eqb-true (h .bars) 0 e in start-leads (omega arith) z b
       go false true e d = past-leads b byte
       go false false e d =
           let l = ltb-false (h .fields) (h .bars) d in
           let some = eqb-false (h .bars) 0 e in
-          in-leads (omega (arith, f .fields)) (omega arith) ss os holds b byte
+          in-leads (omega (arith, f .fields)) (omega arith) ss os a b byte
 
-pub step-leads : (h : Hot) → HotFit h → (ss os : List ℕ) (holds : Bool) (b : ℕ) → b < 256 → Leads h (stepOf h ss os holds b)
+pub step-leads : (h : Hot) → HotFit h → (ss os : List ℕ) (a : Asked) (b : ℕ) → b < 256 → Leads h (stepOf h ss os a b)
 unfolding stepOf
-step-leads h f ss os holds b byte = go (leb byteLimit (h .bytes)) refl
+step-leads h f ss os a b byte = go (leb byteLimit (h .bytes)) refl
   where
     go : (t : Bool) → leb byteLimit (h .bytes) ≡ t
         → Leads h (pick t (Broken 16 0)
-        (pick (eqb (h .bars) 0) (startOf h b) (pick (ltb (h .fields) (h .bars)) (pastOf h b) (inFieldOf h ss os holds b))))
+        (pick (eqb (h .bars) 0) (startOf h b) (pick (ltb (h .fields) (h .bars)) (pastOf h b) (inFieldOf h ss os a b))))
     go true e = stops {rule = 16} {field = 0} refl (omega arith)
-    go false e = line-leads h f (leb-false _ _ e) ss os holds b byte
+    go false e = line-leads h f (leb-false _ _ e) ss os a b byte
 
 -- the position that a rule's refusal gives is within the bytes judged
 pub position-ranged : (h : Hot) → HotFit h → (rule : ℕ) → positionRanged rule (positionOf h rule) (h .bytes + 1) ≡ true

@@ -6,8 +6,10 @@ use lib.Dec.{eqb, ltb}
 use lib.ListN.{getD, set}
 use Rattle.layout.specs.Pick.{pick}
 use Rattle.layout.specs.Rows.{rowCount, row9900, block, blocks}
+use Rattle.layout.specs.Periods.{periodCount, periodOf}
 use Rattle.rules.specs.Bytes.{LF}
-use Rattle.line.specs.Machine.{numberUnit, judgedWith, entryOf, usedOf, joinedOf, allHoldOf, stepOf, positionOf}
+use Rattle.rules.specs.Periods.{mostPairs}
+use Rattle.line.specs.Machine.{numberUnit, judgedWith, entryOf, usedOf, joinedOf, pairStart, askedOf, stepOf, positionOf}
 use Rattle.line.specs.declared.hot.Hot.{Hot}
 use Rattle.line.specs.declared.step.Step.{Step}
 use Rattle.line.specs.declared.step.Step.the-variants.{Next, Broken}
@@ -48,14 +50,22 @@ statedOf stated says =
 unfoldable pub statedWith : Hot → ℕ → List ℕ → List ℕ
 statedWith h b stated = pick (eqb b LF && eqb (h .row) row9900) (statedOf stated (h .says)) stated
 
-abbrev pub tallyOf : List ℕ → List ℕ → List ℕ → List ℕ → List ℕ → Tally
-tallyOf counts stamps occurrences totals stated =
-    record { counts = counts; stamps = stamps; occurrences = occurrences; totals = totals; stated = stated }
+-- The pairs of dates: what a line of a row that has a period says is the next one of its row, while there is room.
+unfoldable pub pairedOf : Hot → ℕ → List ℕ → List ℕ
+pairedOf h ended pairs =
+    pick (ltb (periodOf (h .row)) periodCount && ltb ended mostPairs) (set pairs (pairStart (h .row) + ended) (h .says)) pairs
+
+unfoldable pub pairsWith : Hot → ℕ → List ℕ → List ℕ → List ℕ
+pairsWith h b counts pairs = pick (eqb b LF) (pairedOf h (entryOf counts (h .row)) pairs) pairs
+
+abbrev pub tallyOf : List ℕ → List ℕ → List ℕ → List ℕ → List ℕ → List ℕ → Tally
+tallyOf counts stamps occurrences totals stated pairs =
+    record { counts = counts; stamps = stamps; occurrences = occurrences; totals = totals; stated = stated; pairs = pairs }
 
 abbrev pub tallyWith : Hot → ℕ → ℕ → Tally → Tally
 tallyWith h n b t =
     tallyOf (countsWith h b (t .counts)) (stampsWith h n b (t .stamps)) (occurrencesWith h b (t .stamps) (t .occurrences))
-    (totalsWith h b (t .totals)) (statedWith h b (t .stated))
+    (totalsWith h b (t .totals)) (statedWith h b (t .stated)) (pairsWith h b (t .counts) (t .pairs))
 
 -- A piece, byte by byte.
 abbrev pub stateOf : Hot → ℕ → ℕ → ℕ → Bool → Tally → State
@@ -87,7 +97,7 @@ onStep (Broken r f) go stop = stop r f
 
 -- a step, at what is kept
 abbrev pub stepWith : Hot → Tally → ℕ → Step
-stepWith h t b = stepOf h (t .stamps) (t .occurrences) (allHoldOf (t .counts) (t .stated)) b
+stepWith h t b = stepOf h (t .stamps) (t .occurrences) (askedOf h (t .counts) (t .stated) (t .pairs)) b
 
 unfoldable pub runOf : Hot → Tally → List ℕ → Checked
 runOf h t [] = openOf h t

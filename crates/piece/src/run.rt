@@ -2,13 +2,16 @@
 ghost use mathlib.Core.Path.{_≡_};
 ghost use Rattle.layout.specs.Packed.{rowNumbers, parentColumn};
 ghost use Rattle.line.specs.Machine.{Below, HotFit, Tables};
-ghost use Rattle.piece.specs.Piece.{setOf, countsWith, stampsWith, occurrencesWith, totalsWith, statedWith, tallyOf, runOf};
+ghost use Rattle.piece.specs.Piece.{setOf, countsWith, stampsWith, occurrencesWith, totalsWith, statedWith, pairedOf};
+ghost use Rattle.piece.specs.Piece.{pairsWith, tallyOf, runOf};
 ghost use Rattle.state.specs.Ranges.{Held};
 use crate::outcome::ended_by;
 use crate::outcome::opened;
 use layout::blocks::BLOCKS;
 use layout::codes::SLOTS;
 use layout::kinds::FIELDS;
+use layout::periods::PERIODS;
+use layout::periods::period_at;
 use layout::roles::block_at;
 use layout::rows::ENTRIES;
 use layout::rows::ROWS;
@@ -16,6 +19,8 @@ use line::hot::Hot;
 use line::order::ROW_9900;
 use line::order::entry;
 use line::order::used;
+use line::periods::PAIRS;
+use line::periods::PAIRS_MOST;
 use line::statements::NUMBER_UNIT;
 use line::statements::joined;
 use line::step::LF;
@@ -33,8 +38,23 @@ fn put(array: &mut [u64; ROWS], r: usize, v: u64)
     }
 }
 
+// What a line of a row that has a period says is the next pair of its row, if there is room. So many have ended before it.
+fn paired(rows: &[[u64; 4]; ENTRIES], h: Hot, ended: u64, pairs: &mut [u64; PAIRS])
+    requires { ⌜ HotFit h ⌝ }
+    requires { ⌜ now rows ≡ rowNumbers ⌝ }
+    ensures { λ _. ⌜ now (pairs .exit) ≡ pairedOf h ended (now (pairs .entry)) ⌝ }
+{
+    let place = period_at(rows, h.row);
+    if place < PERIODS {
+        if ended < PAIRS_MOST as u64 {
+            pairs[PAIRS_MOST * place + ended as usize] = h.says;
+        }
+    }
+}
+
 // The arrays after a byte that was accepted: LF ends the line at hand, the file's line n.
 fn noted(
+    rows: &[[u64; 4]; ENTRIES],
     parents: &[usize; ENTRIES],
     h: Hot,
     n: u64,
@@ -42,18 +62,21 @@ fn noted(
     counts: &mut [u64; ROWS],
     stamps: &mut [u64; ROWS],
     occurrences: &mut [u64; ROWS],
+    pairs: &mut [u64; PAIRS],
 )
-    requires { ⌜ now parents ≡ parentColumn ⌝ }
+    requires { ⌜ (now rows ≡ rowNumbers) × (now parents ≡ parentColumn) ⌝ }
     requires { ⌜ HotFit h ⌝ }
     requires { ⌜ Below (h .bytes) (now counts) × Below (h .bytes) (now occurrences) ⌝ }
     ensures { λ _. ⌜ now (counts .exit) ≡ countsWith h b (now (counts .entry)) ⌝ }
     ensures { λ _. ⌜ now (stamps .exit) ≡ stampsWith h n b (now (stamps .entry)) ⌝ }
     ensures { λ _. ⌜ now (occurrences .exit) ≡ occurrencesWith h b (now (stamps .entry)) (now (occurrences .entry)) ⌝ }
+    ensures { λ _. ⌜ now (pairs .exit) ≡ pairsWith h b (now (counts .entry)) (now (pairs .entry)) ⌝ }
 {
     if b == LF {
         let r = h.row;
         let under = used(parents, stamps, occurrences, r);
         let ended = entry(counts, r);
+        paired(rows, h, ended, pairs);
         put(counts, r, ended + 1);
         put(stamps, r, n);
         put(occurrences, r, under + 1);
@@ -94,8 +117,9 @@ fn tally_of(
     occurrences: [u64; ROWS],
     totals: [u64; BLOCKS],
     stated: [u64; ENTRIES],
+    pairs: [u64; PAIRS],
 ) -> Tally
-    ensures { λ r. ⌜ r ≡ tallyOf counts stamps occurrences totals stated ⌝ }
+    ensures { λ r. ⌜ r ≡ tallyOf counts stamps occurrences totals stated pairs ⌝ }
 {
     Tally {
         counts,
@@ -103,6 +127,7 @@ fn tally_of(
         occurrences,
         totals,
         stated,
+        pairs,
     }
 }
 
@@ -127,6 +152,7 @@ fn judge_all(
     let mut occurrences = tally.occurrences;
     let mut totals = tally.totals;
     let mut stated = tally.stated;
+    let mut pairs = tally.pairs;
     let mut i = 0;
     while i < piece.len() {
         let b = piece[i];
@@ -141,14 +167,16 @@ fn judge_all(
             &occurrences,
             &counts,
             &stated,
+            &pairs,
             b,
         );
         let Step::Next(n) = t else {
-            let kept = tally_of(counts, stamps, occurrences, totals, stated);
+            let kept = tally_of(counts, stamps, occurrences, totals, stated, pairs);
             return ended_by(t, h, kept);
         };
         totalled(rows, h, b, &mut totals);
         noted(
+            rows,
             parents,
             h,
             n.lines,
@@ -156,12 +184,16 @@ fn judge_all(
             &mut counts,
             &mut stamps,
             &mut occurrences,
+            &mut pairs,
         );
         stated_with(h, b, &mut stated);
         h = n;
         i += 1;
     }
-    opened(h, tally_of(counts, stamps, occurrences, totals, stated))
+    opened(
+        h,
+        tally_of(counts, stamps, occurrences, totals, stated, pairs),
+    )
 }
 
 // The same, with the tables: read once a piece, so that a look-up is a plain load.

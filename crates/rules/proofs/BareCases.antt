@@ -6,18 +6,22 @@ use Rattle.layout.specs.Text
 use Rattle.layout.specs.Rows
 use Rattle.layout.specs.Sheets
 use Rattle.layout.specs.Kinds
+use Rattle.layout.specs.Periods as Dates
 use Rattle.rules.specs.Bytes
 use Rattle.rules.specs.Order
 use Rattle.rules.specs.Counts
 use Rattle.rules.specs.CheckDigits
 use Rattle.rules.specs.Fields
 use Rattle.rules.specs.Position
+use Rattle.rules.specs.Periods
 use Rattle.rules.specs.Statements
 use Rattle.rules.specs.Rules
 use Rattle.rules.specs.Verdict
 use Rattle.rules.specs.BareCases.{Bare, rowNamed, rowsNamed, placed, dueAfter, lineCases, block8Cases}
 use Rattle.rules.specs.BareCases.{numberOf, brokenAfter, dated, byteCases, newFieldCases}
 use Rattle.rules.specs.BareCases.{stated, statedBoth, valueCases, noRowCases, emptyCases, twiceCases, lastBarCases}
+use Rattle.rules.specs.BareCases.{pairAfter, pairBroken, pairCases, emptyDateCases, pairLine, pairLines}
+use Rattle.rules.specs.BareCases.{manyPairsCases, pairBarCases}
 use Rattle.rules.specs.BareCases.{digitAfter, brokenDigits, digitCases, checkedBarCases}
 use Rattle.rules.specs.BareCases.{numberAndPosition, placedAfter, firstWrong, positionCases, positionByteCases}
 use Rattle.rules.specs.BareCases.{totalsAfter, totalsIn, totalsCases}
@@ -40,20 +44,29 @@ unfolding digitCases digitAfter brokenDigits Text.bytes CheckDigits.digitsOf Che
 digit-cases = refl
 
 pub byte-cases : Agree byteCases × Agree newFieldCases × Agree checkedBarCases × Agree lastBarCases × Agree positionByteCases
-unfolding byteCases newFieldCases checkedBarCases lastBarCases positionByteCases numberOf brokenAfter dated
+    × Agree pairBarCases
+unfolding byteCases newFieldCases checkedBarCases lastBarCases positionByteCases pairBarCases numberOf brokenAfter dated
     numberAndPosition placedAfter Text.bytes Text.codeNumber Text.textNumber Rows.rowTable
-    Rows.listed Rows.code Rows.fields Rows.isOpening Rows.isClosing Rows.rowFrom Rows.rowOfCode Sheets.sheets
-    Kinds.kindOf Kinds.sheetOf Kinds.fitted Kinds.kindsOf Kinds.kind Bytes.cut Bytes.lines Bytes.lineAtHand
+    Rows.listed Rows.code Rows.fields Rows.placeOf Rows.isOpening Rows.isClosing Rows.rowFrom Rows.rowOfCode Sheets.sheets
+    Kinds.kindOf Kinds.sheetOf Kinds.fitted Kinds.kindsOf Kinds.kind Dates.periods Dates.periodCodes Dates.periodOf
+    Dates.firstDates Dates.laterDates Dates.firstDate Dates.laterDate Bytes.cut Bytes.lines Bytes.lineAtHand
     Bytes.part Bytes.field Bytes.rowOfWord Bytes.rowOf Bytes.rows Bytes.rowAtHand Bytes.bars Bytes.word Bytes.empty
     Bytes.isEndByte CheckDigits.digitsOf CheckDigits.weighed CheckDigits.checkDigit CheckDigits.rightAfter CheckDigits.bothRight
     CheckDigits.isCnpj CheckDigits.isCpf Fields.isDigit Fields.allDigits Fields.value Fields.isDecimal Fields.upToDecimals
     Fields.beginsDecimal Fields.isLeapYear Fields.daysOf Fields.isDate Fields.sameBytes Fields.isText Fields.states Fields.formOf
-    Counts.linesOfRow Counts.due Statements.occurs Statements.isTrue Statements.allTrue Rules.inField Rules.pastFields
+    Counts.linesOfRow Counts.due Periods.samePair Periods.seenBefore Periods.crowded Statements.occurs Statements.isTrue Statements.allTrue Rules.inField Rules.pastFields
     Rules.isCodeBar Rules.isFieldBar Rules.formAtHand Rules.breaks1 Rules.breaks2 Rules.breaks3 Rules.breaks4
     Rules.breaks5 Rules.breaks6 Rules.breaks7 Rules.breaks8 Rules.breaks9 Rules.breaks10 Rules.breaks11
-    Rules.breaks12 Rules.breaks13 Rules.breaks24 Rules.breaks23 Rules.controlByte Rules.wrongByte
+    Rules.breaks12 Rules.breaks13 Rules.breaks24 Rules.isPairBar Rules.breaks20 Rules.breaks21 Rules.breaks23 Rules.controlByte Rules.wrongByte
     Position.position Rules.rules Rules.firstBroken
-byte-cases = (refl, refl, refl, refl, refl)
+byte-cases = (refl, refl, refl, refl, refl, refl)
+
+pub pair-cases : Agree pairCases × Agree emptyDateCases × Agree manyPairsCases
+unfolding pairCases emptyDateCases manyPairsCases pairAfter pairBroken pairLine pairLines Text.bytes
+    Text.codeNumber Text.textNumber Rows.rowTable Rows.listed Rows.code Rows.placeOf Rows.rowFrom Rows.rowOfCode Dates.periods Dates.periodCodes Dates.periodOf
+    Dates.firstDates Dates.laterDates Dates.firstDate Dates.laterDate Bytes.cut Bytes.part Bytes.field Bytes.rowOfWord Bytes.rowOf
+    Fields.sameBytes Counts.linesOfRow Periods.samePair Periods.seenBefore Periods.crowded
+pair-cases = (refl, refl, refl)
 
 pub statement-cases : Agree twiceCases × Agree valueCases × Agree noRowCases × Agree emptyCases
 unfolding twiceCases valueCases noRowCases emptyCases stated statedBoth rowNamed rowsNamed Text.bytes Text.codeNumber

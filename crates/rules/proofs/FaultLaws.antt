@@ -14,13 +14,16 @@ use Rattle.rules.specs.Bytes.{bar, CR, LF, lines, rowOf, rows, rowAtHand
 use Rattle.rules.specs.Order.{last, canStand, hasRoom, isData}
 use Rattle.rules.specs.Counts.{due}
 use Rattle.rules.specs.Fields.{formOf, states}
+use Rattle.rules.specs.Periods.{seenBefore, crowded}
 use Rattle.rules.specs.Statements.{allTrue}
 use Rattle.rules.specs.Rules.{Fault, clear, breaks, rules, firstBroken, inField, pastFields, rowToBe, formAtHand}
 use Rattle.rules.specs.Rules.{openedBy, complete, isLastLine, isCodeBar, isFieldBar, controlByte, wrongByte}
 use Rattle.rules.specs.Rules.{breaks1, breaks2, breaks3, breaks4, breaks5, breaks6, breaks7}
-use Rattle.rules.specs.Rules.{breaks8, breaks9, breaks10, breaks11, breaks12, breaks13, breaks24, breaks23}
+use Rattle.rules.specs.Rules.{breaks8, breaks9, breaks10, breaks11, breaks12, breaks13, breaks24, breaks20, breaks21}
+use Rattle.rules.specs.Rules.{breaks23, isPairBar, withBar}
 use Rattle.rules.proofs.TestLaws.{split, and-left, and-right, and-false}
 use Rattle.layout.proofs.RoleLaws.{fields-none, none-kind}
+use Rattle.layout.proofs.PeriodLaws.{later-none}
 use Rattle.rules.proofs.ByteLaws.{row-early}
 
 -- where a byte stands
@@ -93,7 +96,9 @@ fieldFault seen =
     (pick (not (f .content w)) (breaks 12 n 0)
     (pick (f .isCount && not (states (due (rowAtHand seen) (rows seen)) w)) (breaks 13 n 0)
     (pick (not (empty w) && not (f .digits w)) (breaks 24 n 0)
-    (pick (eqb (rowAtHand seen) row9999 && eqb n 2 && not (allTrue (row9999 ∷ rows seen) (lines seen))) (breaks 23 n 0) clear)))))
+    (pick (isPairBar seen && seenBefore (withBar seen) (lines seen)) (breaks 20 n 0)
+    (pick (isPairBar seen && crowded (withBar seen) (lines seen)) (breaks 21 n 0)
+    (pick (eqb (rowAtHand seen) row9999 && eqb n 2 && not (allTrue (row9999 ∷ rows seen) (lines seen))) (breaks 23 n 0) clear)))))))
 
 -- the rules of a byte in a field that is no bar
 abbrev pub byteFault : List ℕ → ℕ → Fault
@@ -128,15 +133,15 @@ module _ (seen : List ℕ) where
   past-in e = rw (lt-leb (bars seen) (fields (rowAtHand seen)) (past-fields seen e)) (and-false (ltb 0 (bars seen)))
 
   pub fault-code-bar : bars seen ≡ 1 → firstBroken rules seen bar ≡ codeFault seen
-  unfolding rules firstBroken inField pastFields isCodeBar isFieldBar formAtHand formOf isEndByte
+  unfolding rules firstBroken inField pastFields isCodeBar isFieldBar isPairBar formAtHand formOf isEndByte
       breaks1 breaks2 breaks3 breaks4 breaks5 breaks6 breaks7 breaks8 breaks9 breaks10 breaks11 breaks12 breaks13 breaks24
-      breaks23
-  fault-code-bar e = simp (e, row-early seen (omega arith), fields-none, none-kind, and-false)
+      breaks20 breaks21 breaks23
+  fault-code-bar e = simp (e, row-early seen (omega arith), fields-none, none-kind, later-none, and-false)
 
   pub fault-field-bar : 2 ≤ bars seen → inField seen ≡ true → firstBroken rules seen bar ≡ fieldFault seen
   unfolding rules firstBroken isCodeBar isFieldBar isEndByte
       breaks1 breaks2 breaks3 breaks4 breaks5 breaks6 breaks7 breaks8 breaks9 breaks10 breaks11 breaks12 breaks13 breaks24
-      breaks23
+      breaks20 breaks21 breaks23
   fault-field-bar h e =
       simp (ne-eqb (bars seen) 0 (λ z. omega arith), ne-eqb (bars seen) 1 (λ z. omega arith), e, in-past e, and-false)
 
@@ -144,13 +149,13 @@ module _ (seen : List ℕ) where
     pub fault-start : bars seen ≡ 0 → firstBroken rules seen b ≡ pick (not (eqb b bar)) (breaks 1 0 0) clear
     unfolding rules firstBroken inField pastFields isCodeBar isFieldBar
         breaks1 breaks2 breaks3 breaks4 breaks5 breaks6 breaks7 breaks8 breaks9 breaks10 breaks11 breaks12 breaks13 breaks24
-        breaks23
+        breaks20 breaks21 breaks23
     fault-start e = simp (e, le-ltb (fields (rowAtHand seen)) 0 (omega arith))
 
     pub fault-past : pastFields seen ≡ true → firstBroken rules seen b ≡ endFault seen b
     unfolding rules firstBroken isCodeBar isFieldBar
         breaks1 breaks2 breaks3 breaks4 breaks5 breaks6 breaks7 breaks8 breaks9 breaks10 breaks11 breaks12 breaks13 breaks24
-        breaks23
+        breaks20 breaks21 breaks23
     fault-past e =
         let h = past-late seen e in
         simp (ne-eqb (bars seen) 0 (λ z. omega arith), ne-eqb (bars seen) 1 (λ z. omega arith), e, past-in e)
@@ -160,7 +165,7 @@ module _ (seen : List ℕ) where
     pub fault-byte : inField seen ≡ true → eqb b bar ≡ false → firstBroken rules seen b ≡ byteFault seen b
     unfolding rules firstBroken isCodeBar isFieldBar
         breaks1 breaks2 breaks3 breaks4 breaks5 breaks6 breaks7 breaks8 breaks9 breaks10 breaks11 breaks12 breaks13 breaks24
-        breaks23
+        breaks20 breaks21 breaks23
     fault-byte e t =
         let h = in-bars e in
         simp (ne-eqb (bars seen) 0 (λ z. omega arith), e, in-past e, t, and-false)

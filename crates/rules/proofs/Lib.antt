@@ -11,6 +11,7 @@ pub mod FrameLaws
 pub mod ByteLaws
 pub mod FaultLaws
 pub mod CleanLaws
+pub mod PeriodLaws
 pub mod SoundLaws
 pub mod StatedLaws
 pub mod TotalLaws

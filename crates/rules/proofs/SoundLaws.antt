@@ -12,28 +12,35 @@ use Rattle.layout.specs.Pick.{pick}
 use Rattle.layout.specs.Text.{codeNumber}
 use Rattle.layout.specs.Rows.{none, rowCount, rowOfCode, fields, isClosing, row9999}
 use Rattle.layout.specs.Kinds.{kind}
+use Rattle.layout.specs.Periods.{laterDate}
 use Rattle.rules.specs.Bytes.{bar, LF, lines, lineAtHand, field, rowOfWord, rowOf}
 use Rattle.rules.specs.Bytes.{rows, rowAtHand, bars, word, empty, isEndByte, cut}
 use Rattle.rules.specs.Order.{canStand, hasRoom, isData}
 use Rattle.rules.specs.Counts.{due}
 use Rattle.rules.specs.Fields.{formOf, states}
+use Rattle.rules.specs.Periods.{seenBefore, crowded, NewPair, PairsOnce}
 use Rattle.rules.specs.Statements.{allTrue}
 use Rattle.rules.specs.Rules.{clear, rules, firstBroken, fault, inField}
 use Rattle.rules.specs.Rules.{pastFields, rowToBe, formAtHand, openedBy, byteLimit, controlByte}
+use Rattle.rules.specs.Rules.{isPairBar, withBar}
 use Rattle.rules.proofs.TestLaws.{split, pick-le, pick-clear, broken-clear, then-holds}
 use Rattle.layout.proofs.CodeLaws.{row-of-code-le}
 use Rattle.layout.proofs.RowLaws.{fields-two}
 use Rattle.layout.proofs.RoleLaws.{fields-9999}
+use Rattle.layout.proofs.PeriodLaws.{first-after, later-inside, dates-order, later-some}
 use Rattle.rules.proofs.ByteLaws.{lines-on, rows-on, bars-on, field-on, row-on, lines-bar, rows-bar}
-use Rattle.rules.proofs.ByteLaws.{bars-bar, field-bar, row-code, row-later, lines-lf, rows-lf, bars-lf}
+use Rattle.rules.proofs.ByteLaws.{bars-bar, field-bar, row-code, row-later, lines-lf, rows-lf, bars-lf, hand-on}
 use Rattle.rules.proofs.FaultLaws.{Place, starts, codes, fills, ends, place, past-fields}
 use Rattle.rules.proofs.FaultLaws.{in-fields, past-late, codeFault, fieldFault, fault-start}
 use Rattle.rules.proofs.FaultLaws.{fault-byte, fault-past, fault-code-bar, fault-field-bar, code-in}
 use Rattle.rules.proofs.CleanLaws.{Clean, clean-before, clean-clear, clear-room, clear-rules}
+use Rattle.rules.proofs.PeriodLaws.{new-same}
 use Rattle.rules.proofs.Stood.{Stood}
 
--- the bar after field n of a line of row r, with the bytes w, breaks neither 12 nor 13
+-- the bar after field n of a line of row r, with the bytes w, breaks none of 10 to 13
 pub record Passed (r : ℕ) (before : List ℕ) (n : ℕ) (w : List ℕ) : Type 0 where
+  pub inCharacters : not (empty w) ≡ true → formOf (kind r n) .characters w ≡ true
+  pub inSize : not (empty w) ≡ true → formOf (kind r n) .size (length w) ≡ true
   pub inContent : formOf (kind r n) .content w ≡ true
   pub inCount : formOf (kind r n) .isCount ≡ true → states (due r before) w ≡ true
 
@@ -56,12 +63,15 @@ pub record Sound (seen : List ℕ) : Type 0 where
   pub stood : Stood (rows seen)
   pub passed : AllPassed (lines seen)
   pub told : AllTold (lines seen)
+  pub once : PairsOnce (lines seen)
   -- the line at hand: its row once its code has come, its bars, its fields that have ended
   pub known : 2 ≤ bars seen → Known (rowAtHand seen) (rows seen)
   pub within : bars seen ≤ suc (fields (rowAtHand seen))
   pub passing : (n : ℕ) → 2 ≤ n → n < bars seen → Passed (rowAtHand seen) (rows seen) n (field n (lineAtHand seen))
   -- rule 23 has been judged once field 2 of 9999 has ended
   pub telling : 3 ≤ bars seen → rowAtHand seen ≡ row9999 → allTrue (row9999 ∷ rows seen) (lines seen) ≡ true
+  -- rules 20 and 21 have been judged once the later date has ended
+  pub pairing : 1 ≤ laterDate (rowAtHand seen) → laterDate (rowAtHand seen) < bars seen → NewPair (lineAtHand seen) (lines seen)
   -- all bytes
   pub short : length seen ≤ byteLimit
 
@@ -84,11 +94,13 @@ code-known seen e =
     let six = pick-clear (not (hasRoom r (rows seen))) 6 1 0 _ (five .1) in
     (word-row-known (word seen) (three .0), not-false _ (four .0), not-false _ (six .0))
 
--- a bar after a later field that breaks no rule: the field passed, and after field 2 of 9999 the 9900 lines are true
+-- a bar after a later field that breaks no rule: the field passed; after the later date the pair is new; and after field 2 of 9999 the
+-- 9900 lines are true
 pub field-clear : (seen : List ℕ) → fieldFault seen ≡ clear
     → Passed (rowAtHand seen) (rows seen) (bars seen) (word seen)
+    × (bars seen ≡ laterDate (rowAtHand seen) → NewPair (withBar seen) (lines seen))
     × (rowAtHand seen ≡ row9999 → bars seen ≡ 2 → allTrue (row9999 ∷ rows seen) (lines seen) ≡ true)
-unfolding formAtHand
+unfolding formAtHand isPairBar
 field-clear seen e =
     let w = word seen in
     let n = bars seen in
@@ -101,11 +113,16 @@ field-clear seen e =
     let twelve = pick-clear (not (f .content w)) 12 n 0 _ (eleven .1) in
     let thirteen = pick-clear (f .isCount && not s) 13 n 0 _ (twelve .1) in
     let twenty-four = pick-clear (not (empty w) && not (f .digits w)) 24 n 0 _ (thirteen .1) in
-    let twenty-three = pick-clear (eqb r row9999 && eqb n 2 && not a) 23 n 0 _ (twenty-four .1) in (
+    let twenty = pick-clear (eqb n (laterDate r) && seenBefore (withBar seen) (lines seen)) 20 n 0 _ (twenty-four .1) in
+    let twenty-one = pick-clear (eqb n (laterDate r) && crowded (withBar seen) (lines seen)) 21 n 0 _ (twenty .1) in
+    let twenty-three = pick-clear (eqb r row9999 && eqb n 2 && not a) 23 n 0 _ (twenty-one .1) in (
       record {
+        inCharacters = then-holds (not (empty w)) (f .characters w) (ten .0);
+        inSize = then-holds (not (empty w)) (f .size (length w)) (eleven .0);
         inContent = not-false (f .content w) (twelve .0);
         inCount = then-holds (f .isCount) s (thirteen .0);
       },
+      (λ is. (rw (eq-eqb n (laterDate r) is) at (twenty .0), rw (eq-eqb n (laterDate r) is) at (twenty-one .0))),
       (λ is second. then-holds (eqb r row9999 && eqb n 2) a (twenty-three .0) (rw (eq-eqb r row9999 is, eq-eqb n 2 second))),
     )
 
@@ -126,6 +143,12 @@ lf-past seen e = go (place seen)
     go (fills h i) = in-field i
     go (ends h p) = p
 
+-- a period's later date is a field after the code
+later-in : (r : ℕ) → r < rowCount → 1 ≤ laterDate r → (2 ≤ laterDate r) × (laterDate r ≤ fields r)
+later-in r known some =
+    let e = later-some r some in
+    (omega (arith, first-after r known e, dates-order r), later-inside r known e)
+
 sound-lf : (seen : List ℕ) → Sound seen → length seen < byteLimit → firstBroken rules seen LF ≡ clear → Sound (LF ∷ seen)
 unfolding rowAtHand rows
 sound-lf seen s small e =
@@ -138,10 +161,12 @@ sound-lf seen s small e =
       stood = rw (rows-lf seen) (row .1, row .2, row .0, s .stood);
       passed = rw (lines-lf seen) (λ n h l. s .passing n h (omega arith), s .passed);
       told = rw (lines-lf seen) (λ is. s .telling (omega (arith, ap fields is, fields-9999)) is, s .told);
+      once = rw (lines-lf seen) (λ some. s .pairing some (omega (arith, later-in (rowAtHand seen) (row .0) some)), s .once);
       known = λ h. absurd (omega arith);
       within = omega arith;
       passing = λ n h l. absurd (omega arith);
       telling = λ h is. absurd (omega arith);
+      pairing = λ some l. absurd (omega arith);
       short = small;
     }
 
@@ -198,8 +223,34 @@ module _ (seen : List ℕ) (e : firstBroken rules seen bar ≡ clear) where
       go (codes d) = absurd (omega (arith, bars-bar seen))
       go (fills m i) =
           let at-hand = sym (row-later seen m) ∙ is in
-          field-clear seen (sym (fault-field-bar seen m i) ∙ e) .1 at-hand
+          field-clear seen (sym (fault-field-bar seen m i) ∙ e) .2 at-hand
           (omega (arith, in-fields seen i, ap fields at-hand, fields-9999))
+      go (ends m p) = bar-past p
+
+  -- the pair is new at the bar after the later date, and its bytes stay what they are
+  pairing-bar : Sound seen → 1 ≤ laterDate (rowAtHand (bar ∷ seen)) → laterDate (rowAtHand (bar ∷ seen)) < bars (bar ∷ seen)
+      → NewPair (lineAtHand (bar ∷ seen)) (lines (bar ∷ seen))
+  pairing-bar s some l = rw (lines-bar seen) (go (place seen))
+    where
+      go : Place seen → NewPair (lineAtHand (bar ∷ seen)) (lines seen)
+      go (starts z) = absurd (omega (arith, bars-bar seen))
+      go (codes d) =
+          let known = code-known seen (sym (fault-code-bar seen d) ∙ e) in
+          let some′ : 1 ≤ laterDate (rowToBe seen) = rw (row-code seen d) at some in
+          let l′ : laterDate (rowToBe seen) < bars (bar ∷ seen) = rw (row-code seen d) at l in
+          absurd (omega (arith, bars-bar seen, later-in (rowToBe seen) (known .0) some′ .0))
+      go (fills m i) = past (ℕ-discrete (bars seen) (laterDate (rowAtHand seen)))
+        where
+          past : Dec (bars seen ≡ laterDate (rowAtHand seen)) → NewPair (lineAtHand (bar ∷ seen)) (lines seen)
+          past (yes q) = rw (hand-on seen bar refl) (field-clear seen (sym (fault-field-bar seen m i) ∙ e) .1 q)
+          past (no q) =
+              let some′ : 1 ≤ laterDate (rowAtHand seen) = rw (row-later seen m) at some in
+              let l′ : laterDate (rowAtHand seen) < bars (bar ∷ seen) = rw (row-later seen m) at l in
+              let ended : laterDate (rowAtHand seen) < bars seen = omega (arith, bars-bar seen) in
+              new-same (rowAtHand seen) (lineAtHand seen) (lineAtHand (bar ∷ seen)) (unfold rowAtHand in refl)
+              (unfold rowAtHand in row-later seen m)
+              (λ n before. field-bar seen n ∙ rw (ne-eqb (bars seen) n (λ z. omega arith)))
+              (lines seen) (s .pairing some′ ended)
       go (ends m p) = bar-past p
 
   sound-bar : Sound seen → length seen < byteLimit → Sound (bar ∷ seen)
@@ -208,10 +259,12 @@ module _ (seen : List ℕ) (e : firstBroken rules seen bar ≡ clear) where
         stood = rw (rows-bar seen) (s .stood);
         passed = rw (lines-bar seen) (s .passed);
         told = rw (lines-bar seen) (s .told);
+        once = rw (lines-bar seen) (s .once);
         known = known-bar s;
         within = within-bar s;
         passing = passing-bar s;
         telling = telling-bar;
+        pairing = pairing-bar s;
         short = small;
       }
 
@@ -223,6 +276,7 @@ module _ (seen : List ℕ) (b : ℕ) (plain : eqb b LF ≡ false) (inner : eqb b
         stood = rw (rows-on seen b plain) (s .stood);
         passed = rw (lines-on seen b plain) (s .passed);
         told = rw (lines-on seen b plain) (s .told);
+        once = rw (lines-on seen b plain) (s .once);
         known = rw (rows-on seen b plain, row-on seen b plain inner, bars-on seen b plain inner) (s .known);
         within = rw (row-on seen b plain inner, bars-on seen b plain inner) (s .within);
         passing = λ n h l.
@@ -230,6 +284,13 @@ module _ (seen : List ℕ) (b : ℕ) (plain : eqb b LF ≡ false) (inner : eqb b
             (s .passing n h (rw (bars-on seen b plain inner) at l));
         telling =
             rw (rows-on seen b plain, lines-on seen b plain, row-on seen b plain inner, bars-on seen b plain inner) (s .telling);
+        pairing = λ some l.
+            rw (lines-on seen b plain)
+            (new-same (rowAtHand seen) (lineAtHand seen) (lineAtHand (b ∷ seen)) (unfold rowAtHand in refl)
+            (unfold rowAtHand in row-on seen b plain inner)
+            (λ n before. field-on seen b plain inner n) (lines seen)
+            (s .pairing (rw (row-on seen b plain inner) at some)
+            (rw (row-on seen b plain inner, bars-on seen b plain inner) at l)));
         short = small;
       }
 
@@ -249,10 +310,12 @@ sound-start =
       stood = tt;
       passed = tt;
       told = tt;
+      once = tt;
       known = λ h. absurd (omega arith);
       within = omega arith;
       passing = λ n h l. absurd (omega arith);
       telling = λ h is. absurd (omega arith);
+      pairing = λ some l. absurd (omega arith);
       short = omega arith;
     }
 

@@ -1,18 +1,21 @@
 -- Demand 3, of accepted files: the counts add up to the lines, 9999 states the lines, the closings state the lines of their
--- blocks, which add up to all lines; and the first two lines and blocks 0 and 9 are there, and the 9900 lines are true.
+-- blocks, which add up to all lines; and the first two lines and blocks 0 and 9 are there, the 9900 lines are true, and no pair of
+-- dates comes twice.
 use mathlib.Core.Path.{_≡_, _∙_, refl, sym, ap}
 use mathlib.Core.Bool.{Bool, true, false, not, _||_}
 use mathlib.Core.List.{List, [], _∷_, map, reverse}
 use mathlib.Core.Logic.{inl, inr}
-use Prim.Native.Nat.{ℕ, suc, _+_}
+use Prim.Native.Nat.{ℕ, suc, _+_, _≤_}
 use native.Mathlib.Omega.{arith}
 use lib.Dec.{eqb}
 use lib.ListN.{length, length-map}
 use Rattle.layout.specs.Pick.{pick}
 use Rattle.layout.specs.Rows.{block, isClosing, row0000, row0001, row9900, row9999}
+use Rattle.layout.specs.Periods.{laterDate}
 use Rattle.rules.specs.Bytes.{lines, rowOf, rows}
 use Rattle.rules.specs.Order.{last}
-use Rattle.rules.specs.Counts.{linesOfBlock, due}
+use Rattle.rules.specs.Counts.{linesOfRow, linesOfBlock, due}
+use Rattle.rules.specs.Periods.{mostPairs, PairsOnce}
 use Rattle.rules.specs.Statements.{isTrue, allTrue}
 use Rattle.rules.specs.Rules.{complete}
 use Rattle.rules.specs.Verdict.{accepted, finishVerdict, finalOf, countsOf}
@@ -27,6 +30,7 @@ use Rattle.rules.proofs.BlockLaws.{Over, over-next, block-here, block-p
 use Rattle.rules.proofs.BlockLaws.{due-closing, due-9999, claims, claims-total}
 use Rattle.rules.proofs.ByteLaws.{rows-length}
 use Rattle.rules.proofs.CleanLaws.{Clean, counts-clean, accepted-clean, accepted-numbers}
+use Rattle.rules.proofs.PeriodLaws.{pairs-most}
 use Rattle.rules.proofs.SoundLaws.{AllTold, sound}
 use Rattle.rules.proofs.NextLineLaws.{next-line, none-after-9999}
 use Rattle.rules.proofs.FrameLaws.{Ended, by-9999, ended-by, last-is, first-two, some-lines, there, there-0, there-9}
@@ -186,3 +190,11 @@ module _ (file : List ℕ) (l n : ℕ) (answer : finalOf file ≡ accepted l n) 
   pub accepted-statement : (line : List ℕ) → IsAmong line (linesOf file) → rowOf line ≡ row9900
       → isTrue (rows (reverse file)) line ≡ true
   accepted-statement line m e = told-of (rows seen) (lines seen) accepted-told line m e
+
+  -- 02, request b: no line has a pair seen before, and a row has at most 64
+  pub accepted-once : PairsOnce (linesOf file)
+  accepted-once = sound seen clean .once
+
+  pub accepted-pairs : (r : ℕ) → 1 ≤ laterDate r → linesOfRow r (rows (reverse file)) ≤ mostPairs
+  unfolding rows
+  accepted-pairs r some = pairs-most r some (lines seen) accepted-once

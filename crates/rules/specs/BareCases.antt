@@ -1,8 +1,8 @@
--- 01, "Both sides of each rule", and 02, requests h, e, g and f: starred cases and others, each for one rule, without the bytes around
+-- 01, "Both sides of each rule", and 02, requests h, e, g, f and b: starred cases and others, each for one rule, without the bytes around
 -- it. The starred cases are whole files (the crate `cases`); these are short enough that a check which refuses one prints the two numbers
 -- that differ.
-use mathlib.Core.List.{List, [], _∷_, map, reverse}
-use Prim.Native.Nat.{ℕ, _+_, _*_}
+use mathlib.Core.List.{List, [], _∷_, _++_, map, reverse}
+use Prim.Native.Nat.{ℕ, zero, suc, _+_, _*_}
 use Prim.Native.String.{String}
 use Rattle.layout.specs.Pick.{pick}
 use Rattle.layout.specs.Text.{bytes, textNumber}
@@ -14,6 +14,7 @@ use Rattle.rules.specs.Counts.{due, totalsOfRows}
 use Rattle.rules.specs.CheckDigits.{digitsOf, checkDigit, cnpjWeights, cpfWeights}
 use Rattle.rules.specs.Fields.{formOf}
 use Rattle.rules.specs.Position.{position}
+use Rattle.rules.specs.Periods.{seenBefore, crowded}
 use Rattle.rules.specs.Statements.{allTrue}
 use Rattle.rules.specs.Rules.{Fault, clear, breaks, rules, firstBroken}
 use Rattle.rules.specs.Verdict.{totalsOf}
@@ -256,6 +257,63 @@ twiceCases =
     bare 23 (statedBoth "|9900|9900|1|\r" "|9900|9900|2|\r") ∷
     bare 23 (statedBoth "|9900|9900|2|\r" "|9900|9900|1|\r") ∷
     bare 0 (statedBoth "|9900|9900|2|\r" "|9900|9900|2|\r") ∷
+    []
+
+-- 02, request b: which of 20 and 21 a line breaks after these lines; 0 where its pair is new, and not the 65th
+unfoldable pub pairAfter : List (List ℕ) → List ℕ → ℕ
+pairAfter before line = pick (seenBefore line before) 20 (pick (crowded line before) 21 0)
+
+unfoldable pub pairBroken : List String → String → ℕ
+pairBroken before line = pairAfter (reverse (map (λ t. reverse (bytes t)) before)) (reverse (bytes line))
+
+unfoldable pub pairCases : List Bare
+pairCases =
+    -- the same pair in another row
+    bare 0 (pairBroken ("|E300|01012012|31012012|\r" ∷ []) "|E500|01012012|31012012|") ∷
+    -- the same pair again, right away and after another
+    bare 20 (pairBroken ("|E300|01012012|31012012|\r" ∷ []) "|E300|01012012|31012012|") ∷
+    bare 20 (pairBroken ("|E300|01012012|31012012|\r" ∷ "|E300|01022012|29022012|\r" ∷ []) "|E300|01012012|31012012|") ∷
+    -- one date another, on either side; the dates exchanged
+    bare 0 (pairBroken ("|E300|01012012|31012012|\r" ∷ []) "|E300|01012012|30012012|") ∷
+    bare 0 (pairBroken ("|E300|01012012|31012012|\r" ∷ []) "|E300|02012012|31012012|") ∷
+    bare 0 (pairBroken ("|E300|01012012|31012012|\r" ∷ []) "|E300|31012012|01012012|") ∷
+    []
+
+unfoldable pub emptyDateCases : List Bare
+emptyDateCases =
+    -- "empty dates equal empty dates", and no other
+    bare 20 (pairBroken ("|F200|1|||\r" ∷ []) "|F200|2|||") ∷
+    bare 20 (pairBroken ("|F200|1||31012012|\r" ∷ []) "|F200|1||31012012|") ∷
+    bare 0 (pairBroken ("|F200|1||31012012|\r" ∷ []) "|F200|1|31012012||") ∷
+    -- H020 has one date
+    bare 20 (pairBroken ("|H020|0|31122011|||||||||||\r" ∷ []) "|H020|1|31122011|") ∷
+    bare 0 (pairBroken ("|H020|0|31122011|||||||||||\r" ∷ []) "|H020|0|31122012|") ∷
+    []
+
+-- lines of E300 with n different pairs, one byte standing for the first date
+unfoldable pub pairLine : ℕ → List ℕ
+pairLine n = reverse (bytes "|E300|" ++ (n + 128) ∷ bar ∷ bar ∷ [])
+
+unfoldable pub pairLines : ℕ → List (List ℕ)
+pairLines zero = []
+pairLines (suc n) = pairLine n ∷ pairLines n
+
+unfoldable pub manyPairsCases : List Bare
+manyPairsCases =
+    -- the 64th different pair stands, the 65th does not
+    bare 0 (pairAfter (pairLines 63) (pairLine 63)) ∷
+    bare 21 (pairAfter (pairLines 64) (pairLine 64)) ∷
+    -- the first one again, after 63 others
+    bare 20 (pairAfter (pairLines 64) (pairLine 0)) ∷
+    []
+
+-- the same among the rules of a bar: it stands after the later date, and 12 goes before
+unfoldable pub pairBarCases : List Bare
+pairBarCases =
+    bare 20 (brokenAfter "|E300|01012012|31012012|\r\n|E300|01012012|31012012" bar) ∷
+    bare 0 (brokenAfter "|E300|01012012|31012012|\r\n|E300|01012012|30012012" bar) ∷
+    bare 0 (brokenAfter "|E300|01012012|31012012|\r\n|E300|01012012" bar) ∷
+    bare 12 (brokenAfter "|E300|01012012|31022012|\r\n|E300|01012012|31022012" bar) ∷
     []
 
 -- fields of 8001, 8160, 9020 and 9900

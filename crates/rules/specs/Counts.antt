@@ -10,7 +10,7 @@ use Rattle.layout.specs.Rows.{rowCount, block, blocks, row9999}
 -- the lines of row r
 unfoldable pub linesOfRow : ℕ → List ℕ → ℕ
 linesOfRow r [] = 0
-linesOfRow r (x ∷ rows) = pick (eqb x r) (suc (linesOfRow r rows)) (linesOfRow r rows)
+linesOfRow r (x ∷ rows) = let rest = linesOfRow r rows in pick (eqb x r) (suc rest) rest
 
 -- the lines of block x; 0000 is a line of block 0 and 9999 of block 9, as their codes say
 unfoldable pub linesOfBlock : ℕ → List ℕ → ℕ

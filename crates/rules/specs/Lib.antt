@@ -4,6 +4,7 @@ pub mod Counts
 pub mod CheckDigits
 pub mod Fields
 pub mod Position
+pub mod Periods
 pub mod Statements
 pub mod Rules
 pub mod Verdict

@@ -1,4 +1,4 @@
--- 01, "What a refusal says": rules 1 to 13, 15 and 16, and 02's 23 and 24, one by one, and which of them a byte breaks.
+-- 01, "What a refusal says": rules 1 to 13, 15 and 16, and 02's 20, 21, 23 and 24, one by one, and which of them a byte breaks.
 -- `seen` has the bytes received before the byte b, the latest first.
 use mathlib.Core.Bool.{Bool, false, not, _&&_, _||_}
 use mathlib.Core.List.{List, [], _∷_}
@@ -9,11 +9,14 @@ use lib.ListN.{length}
 use Rattle.layout.specs.Pick.{pick}
 use Rattle.layout.specs.Rows.{none, fields, isOpening, isClosing, row9999}
 use Rattle.layout.specs.Kinds.{kind}
-use Rattle.rules.specs.Bytes.{bar, LF, lines, rows, rowAtHand, rowOf, rowOfWord, bars, word, field, empty, isEndByte}
+use Rattle.layout.specs.Periods.{laterDate}
+use Rattle.rules.specs.Bytes.{bar, LF, lines, lineAtHand, rows, rowAtHand, rowOf, rowOfWord, bars, word, field, empty}
+use Rattle.rules.specs.Bytes.{isEndByte}
 use Rattle.rules.specs.Order.{canStand, hasRoom, isData}
 use Rattle.rules.specs.Counts.{due}
 use Rattle.rules.specs.Fields.{Form, formOf, isText, states}
 use Rattle.rules.specs.Position.{position}
+use Rattle.rules.specs.Periods.{seenBefore, crowded}
 use Rattle.rules.specs.Statements.{allTrue}
 
 -- Where the byte stands: in a field of its line (field 1 until the row is known), or past the last field.
@@ -100,6 +103,21 @@ breaks13 seen b = isFieldBar seen b && formAtHand seen .isCount && not (states (
 unfoldable pub breaks24 : List ℕ → ℕ → Bool
 breaks24 seen b = isFieldBar seen b && not (empty (word seen)) && not (formAtHand seen .digits (word seen))
 
+-- 20 and 21, by 02, request b: "at the bar after the later date", of the line with that bar and the lines before
+unfoldable pub isPairBar : List ℕ → Bool
+isPairBar seen = eqb (bars seen) (laterDate (rowAtHand seen))
+
+abbrev pub withBar : List ℕ → List ℕ
+withBar seen = bar ∷ lineAtHand seen
+
+-- 20: "pair seen before"
+unfoldable pub breaks20 : List ℕ → ℕ → Bool
+breaks20 seen b = isFieldBar seen b && (isPairBar seen && seenBefore (withBar seen) (lines seen))
+
+-- 21: "a 65th different pair"
+unfoldable pub breaks21 : List ℕ → ℕ → Bool
+breaks21 seen b = isFieldBar seen b && (isPairBar seen && crowded (withBar seen) (lines seen))
+
 -- 23, by 02, request f: "a stated number of a code is untrue"; "it is judged at the bar after field 2 of 9999", and 9999 is a line of
 -- the whole file
 unfoldable pub breaks23 : List ℕ → ℕ → Bool
@@ -130,7 +148,7 @@ controlByte seen = suc (length (word seen))
 unfoldable pub wrongByte : List ℕ → ℕ
 wrongByte seen = position (formAtHand seen) (word seen)
 
--- The table of 01 without 14 to 19, and after it 02's 24 and 23, in 02's order: a rule's number, when it is broken, the field that
+-- The table of 01 without 14 to 19, and after it 02's 24, 20, 21 and 23, in 02's order: a rule's number, when it is broken, the field that
 -- the refusal names, and the position in that field.
 pub record Rule : Type 0 where
   pub number : ℕ
@@ -163,6 +181,8 @@ rules =
     rule 12 breaks12 bars noByte ∷
     rule 13 breaks13 bars noByte ∷
     rule 24 breaks24 bars noByte ∷
+    rule 20 breaks20 bars noByte ∷
+    rule 21 breaks21 bars noByte ∷
     rule 23 breaks23 bars noByte ∷
     []
 

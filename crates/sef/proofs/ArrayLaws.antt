@@ -20,21 +20,21 @@ use Rattle.rules.proofs.TestLaws.{split, pick-le}
 use Rattle.rules.proofs.AllRows.{stood-rows}
 use Rattle.rules.proofs.ByteLaws.{lines-on, rows-on, rows-lf, lines-lf, rows-length, bars-lines}
 use Rattle.rules.proofs.FaultLaws.{past-late, past-fields}
-use Rattle.rules.proofs.CountLaws.{lines-most, counts-at, counts-line, totals-at, totals-line}
+use Rattle.rules.proofs.CountLaws.{lines-most, counts-line, totals-at, totals-line}
 use Rattle.rules.proofs.OccurrenceLaws.{stamps, occurrences, stamps-line, occurrences-line}
 use Rattle.rules.proofs.CleanLaws.{Clean, clear-rules}
 use Rattle.rules.proofs.SoundLaws.{sound, lf-past}
-use Rattle.line.specs.Machine.{entryOf, numberUnit, allHoldOf}
+use Rattle.layout.proofs.PeriodLaws.{hasPeriod}
+use Rattle.line.specs.Machine.{entryOf, numberUnit, allHoldOf, askedOf}
 use Rattle.field.specs.Streaming.{cap}
 use Rattle.piece.specs.Piece.{setOf, countsWith, stampsWith, occurrencesWith, raisedOf, totalsWith, statedOf, statedWith}
-use Rattle.line.proofs.HotOf.{hotOf, says, says-stated}
-use Rattle.line.proofs.FieldSim.{holds}
+use Rattle.piece.specs.Piece.{pairedOf, pairsWith}
+use Rattle.line.proofs.HotOf.{hotOf, says, says-stated, says-pair}
+use Rattle.line.proofs.PairLaws.{pairOf, pairsOf, entry-count}
+use Rattle.line.proofs.FieldSim.{holds, Answers}
+use Rattle.line.proofs.PairSim.{repeated-is, crowded-is}
 use Rattle.line.proofs.StatementLaws.{word-row-le, word-row-small, statedBy, statedOfRows, stated-other, stated-line, all-hold-is}
 use Rattle.line.proofs.OrderSim.{used-is}
-
-entry-count : (before : List ℕ) (r : ℕ) → r < rowCount → entryOf (countsOfRows before) r ≡ linesOfRow r before
-unfolding entryOf
-entry-count before r row = rw (lt-ltb r rowCount row) (counts-at before r row)
 
 module _ (seen : List ℕ) (b : ℕ) (c : Clean seen) (e : fault seen b ≡ clear) where
   -- an LF ends a line whose row is known
@@ -113,7 +113,27 @@ module _ (seen : List ℕ) (b : ℕ) (c : Clean seen) (e : fault seen b ≡ clea
       (λ s. rw (t, s, eqb-true b LF t, lines-lf seen) (sym (stated-other (lineAtHand seen) (lines seen) (unfold rowAtHand in s)))))
       (λ t. rw (t, lines-on seen b t))
 
--- rule 23, by what is kept
+  -- and the pairs, at the next place of the line's row
+  pairs-lf : b ≡ LF
+      → pairedOf (hotOf seen) (entryOf (countsOfRows (rows seen)) (rowAtHand seen)) (pairsOf (lines seen)) ≡ pairsOf (lineAtHand seen ∷ lines seen)
+  unfolding pairedOf pairsOf pairOf rows rowAtHand
+  pairs-lf p =
+      let past = lf-past seen (rw p at (clear-rules seen b e)) in
+      let late = past-late seen past in
+      let known = ended-row p in
+      rw (entry-count (rows seen) (rowAtHand seen) known)
+      (split (hasPeriod (rowAtHand seen))
+      (λ t. rw (says-pair seen late (past-fields seen past) known t))
+      (λ t. rw t))
+
+  pub pairs-next : pairsWith (hotOf seen) b (countsOfRows (rows seen)) (pairsOf (lines seen)) ≡ pairsOf (lines (b ∷ seen))
+  unfolding pairsWith
+  pairs-next =
+      split (eqb b LF)
+      (λ t. let p = eqb-true b LF t in rw (t, p, lines-lf seen) (pairs-lf p))
+      (λ t. rw (t, lines-on seen b t))
+
+-- rules 20, 21 and 23, by what is kept
 module _ (seen : List ℕ) (c : Clean seen) where
   few : (r : ℕ) → occurs r (row9999 ∷ rows seen) < cap
   unfolding occurs
@@ -122,6 +142,14 @@ module _ (seen : List ℕ) (c : Clean seen) where
       let most = pick-le (eqb r none) 0 (linesOfRow r (row9999 ∷ rows seen)) _ (omega arith) lines in
       omega (arith, most, rows-length seen, bars-lines seen, sound seen c .short)
 
-  pub holds-is : allHoldOf (countsOfRows (rows seen)) (statedOfRows (lines seen)) ≡ holds seen
+  holds-is : allHoldOf (countsOfRows (rows seen)) (statedOfRows (lines seen)) ≡ holds seen
   unfolding rows
   holds-is = all-hold-is (lines seen) few
+
+  pub answers : Answers seen (askedOf (hotOf seen) (countsOfRows (rows seen)) (statedOfRows (lines seen)) (pairsOf (lines seen)))
+  answers =
+      let s = sound seen c in
+      record {
+        ofHolds = holds-is;
+        ofPair = λ late within none at. (repeated-is seen s late within none at, crowded-is seen s late within none at);
+      }

@@ -18,7 +18,7 @@ use Rattle.rules.proofs.CountLaws.{counts-length}
 use Rattle.rules.proofs.FollowsLaws.{none-broken-open, follows-accepted, accepted-follows, first-refused, short-refused}
 use Rattle.rules.proofs.FollowsLaws.{refused-names}
 use Rattle.rules.proofs.TotalLaws.{accepted-last, accepted-sum, accepted-total, accepted-closing, accepted-first}
-use Rattle.rules.proofs.TotalLaws.{accepted-there, accepted-has-0-and-9, accepted-statement}
+use Rattle.rules.proofs.TotalLaws.{accepted-there, accepted-has-0-and-9, accepted-statement, accepted-once, accepted-pairs}
 use Rattle.line.specs.Machine.{positionOf}
 use Rattle.state.specs.Answers.{numbers, numbersOf, said, finallySaid, reportSaid}
 use Rattle.piece.specs.Piece.{openOf, stoppedOf, runOf, keptOf}
@@ -169,6 +169,11 @@ block-counts-add-up file s r h c l n e =
 
 pub statements-true : D.StatementsTrue
 statements-true file s r h c l n e = accepted-statement file l n (sym (c .joined file h) ∙ e)
+
+pub once-per-period : D.OncePerPeriod
+once-per-period file s r h c l n e =
+    let answer = sym (c .joined file h) ∙ e in
+    (accepted-once file l n answer, accepted-pairs file l n answer)
 
 -- "The order of lines", of an accepted file.
 pub first-lines : D.FirstLines

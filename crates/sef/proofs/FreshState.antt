@@ -18,13 +18,14 @@ use Rattle.piece.specs.Piece.{openOf}
 use Rattle.sef.specs.Calls.{fresh}
 use Rattle.line.proofs.HotOf.{says, lastSays}
 use Rattle.line.proofs.StatementLaws.{statedOfRow}
+use Rattle.line.proofs.PairLaws.{pairsOf}
 use Rattle.sef.proofs.StateAfter.{openAt, checkedAfter, after-clean}
 
 fresh-open : fresh ≡ openAt [] .state
 unfolding fresh openOf says lastSays lines rows last since cut lineAtHand bars word rowAtHand rowOf rowOfWord
     field part fields listed rowTable kind kindsOf isOpening isClosing code bytes codeNumber textNumber
     fitted kindOf sheetOf sheets kindNumber fieldAfter countsOfRows tabulate linesOfRow stamps stamped occurrences occurred
-    totalsOfRows linesOfBlock statedOfRow
+    totalsOfRows linesOfBlock statedOfRow pairsOf
 fresh-open = refl
 
 pub fresh-is : fresh ≡ checkedAfter [] .state

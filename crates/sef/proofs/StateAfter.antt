@@ -30,15 +30,17 @@ use Rattle.state.specs.declared.answers.Checked.{Checked}
 use Rattle.line.proofs.HotOf.{hotOf}
 use Rattle.line.proofs.Sim.{step-is}
 use Rattle.line.proofs.StatementLaws.{statedOfRows}
+use Rattle.line.proofs.PairLaws.{pairsOf}
 use Rattle.line.proofs.PositionSim.{position-told}
-use Rattle.sef.proofs.ArrayLaws.{counts-next, stamps-next, occurrences-next, totals-next, stated-next, holds-is}
+use Rattle.sef.proofs.ArrayLaws.{counts-next, stamps-next, occurrences-next, totals-next, stated-next, pairs-next}
+use Rattle.sef.proofs.ArrayLaws.{answers}
 use Rattle.sef.proofs.NumberLaws.{fault-number}
 
 -- while no byte has broken a rule, and where one has broken rule n at the field f
 abbrev tallyAt : List ℕ → Tally
 tallyAt seen =
     tallyOf (countsOfRows (rows seen)) (stamps (rows seen)) (occurrences (rows seen)) (totalsOfRows (rows seen))
-    (statedOfRows (lines seen))
+    (statedOfRows (lines seen)) (pairsOf (lines seen))
 
 abbrev pub openAt : List ℕ → Checked
 openAt seen = openOf (hotOf seen) (tallyAt seen)
@@ -73,19 +75,19 @@ module _ (seen : List ℕ) (b : ℕ) (c : Clean seen) where
   unfolding runOf
   run-clear rest e =
       rw (
-        holds-is seen c,
-        step-is seen b c,
+        step-is seen b c _ (answers seen c),
         e,
         counts-next seen b c e,
         stamps-next seen b c e,
         occurrences-next seen b c e,
         totals-next seen b c e,
         stated-next seen b c e,
+        pairs-next seen b c e,
       )
 
   run-broken : (rest : List ℕ) (n f p : ℕ) → fault seen b ≡ breaks n f p → runAt seen (b ∷ rest) ≡ stoppedAt seen n f
   unfolding runOf
-  run-broken rest n f p e = rw (holds-is seen c, step-is seen b c, e)
+  run-broken rest n f p e = rw (step-is seen b c _ (answers seen c), e)
 
   after-broken : (n f p : ℕ) → fault seen b ≡ breaks n f p → checkedAfter (b ∷ seen) ≡ stoppedAt seen n f
   unfolding checkedAfter checkedBy

@@ -7,7 +7,7 @@ use lib.ListN.{length, drop, replicate}
 use Rattle.layout.specs.Pick.{pick}
 use Rattle.layout.specs.Rows.{rowCount, none, row9999, blocks}
 use Rattle.field.specs.Streaming.{emptyField}
-use Rattle.line.specs.Machine.{codeKind, codeOnly}
+use Rattle.line.specs.Machine.{codeKind, codeOnly, pairCount}
 use Rattle.state.specs.Answers.{numbers}
 use Rattle.piece.specs.Piece.{tallyOf, stateOf, keptOf, runOf}
 use Rattle.state.specs.Ranges.{rangedOf}
@@ -41,7 +41,8 @@ fresh =
     0
     0
     false
-    (tallyOf (replicate rowCount 0) (replicate rowCount 0) (replicate rowCount 0) (replicate blocks 0) (replicate (suc rowCount) 0))
+    (tallyOf (replicate rowCount 0) (replicate rowCount 0) (replicate rowCount 0) (replicate blocks 0) (replicate (suc rowCount) 0)
+    (replicate pairCount 0))
 
 abbrev pub unchanged : Answer → State → Checked
 unchanged a s = record { answer = a; state = s }

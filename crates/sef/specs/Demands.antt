@@ -9,7 +9,10 @@ use mathlib.Core.Logic.{_⊎_}
 use Prim.Native.Nat.{ℕ, _+_, _≤_, _<_}
 use lib.ListN.{length, take, drop}
 use Rattle.layout.specs.Rows.{rowCount, block, isClosing, row0000, row0001, row9900, row9999}
+use Rattle.layout.specs.Periods.{laterDate}
 use Rattle.rules.specs.Bytes.{rowOf, rows}
+use Rattle.rules.specs.Counts.{linesOfRow}
+use Rattle.rules.specs.Periods.{mostPairs, PairsOnce}
 use Rattle.rules.specs.Statements.{isTrue}
 use Rattle.rules.specs.Verdict.{Verdict, stillOpen, refused, accepted, verdictOf, finalOf, countsOf}
 use Rattle.rules.specs.Follows.{NoneBroken, Follows, FirstBroken, CutShort}
@@ -32,7 +35,7 @@ use Rattle.state.specs.declared.answers.ReportAnswer.the-variants as Report
 -- The tender.
 
 -- 1. "Every file gets an answer, also an empty or damaged one."
--- Each list of bytes can be handed over, and a finish then says accepted, or refused by a rule: 1 to 16, 23 or 24.
+-- Each list of bytes can be handed over, and a finish then says accepted, or refused by a rule: 1 to 16, 20, 21, 23 or 24.
 pub data Answered : Verdict → Type 0 where
   isAccepted : {l n : ℕ} → Answered (accepted l n)
   isRefused : {number line field position l n : ℕ} → isRule number ≡ true → Answered (refused number line field position l n)
@@ -44,8 +47,8 @@ EveryFileAnswered =
     → Answered (finallySaid (r .answer)))
 
 -- "A refusal has one number of a fixed table, with line and field."
--- At every state each call's answer is in the table: nothing refused; a rule, 1 to 16, 23 or 24, with the line, lines ended plus 1,
--- a field and a position (which one, EveryAnswerPositioned says in words); or 17 to 19 alone.
+-- At every state each call's answer is in the table: nothing refused; a rule, 1 to 16, 20, 21, 23 or 24, with the line, lines ended
+-- plus 1, a field and a position (which one, EveryAnswerPositioned says in words); or 17 to 19 alone.
 pub data InTable : Verdict → Type 0 where
   isOpen : (lines bytes : ℕ) → InTable (stillOpen lines bytes)
   accepts : (lines bytes : ℕ) → InTable (accepted lines bytes)
@@ -132,6 +135,13 @@ abbrev pub StatementsTrue : Type 0
 StatementsTrue =
     OfAccepted (λ file l s. (line : List ℕ) → IsAmong line (linesOf file) → rowOf line ≡ row9900
     → isTrue (rows (reverse file)) line ≡ true)
+
+-- 02, request b: "two lines with the same pair of dates .. must be refused", and "a 65th different pair".
+-- In an accepted file no line of a row that has a period has a pair that a line before has, and such a row has at most 64 lines.
+abbrev pub OncePerPeriod : Type 0
+OncePerPeriod =
+    OfAccepted (λ file l s. PairsOnce (linesOf file)
+    × ((r : ℕ) → 1 ≤ laterDate r → linesOfRow r (rows (reverse file)) ≤ mostPairs))
 
 -- Document 01, "The order of lines", of an accepted file.
 

@@ -11,6 +11,7 @@ use line::hot::CODE_KIND;
 use line::hot::CODE_ONLY;
 use line::hot::Hot;
 use line::order::ROW_9999;
+use line::periods::PAIRS;
 use piece::outcome::kept;
 use piece::run::run;
 use state::State;
@@ -53,6 +54,7 @@ pub fn start() -> State
             occurrences: [0; ROWS],
             totals: [0; BLOCKS],
             stated: [0; ENTRIES],
+            pairs: [0; PAIRS],
         },
     }
 }

@@ -178,6 +178,8 @@ not-of-call n e l m =
     (rw (
       ne-eqb n 0 (λ z. omega arith),
       lt-leb n 16 (omega arith),
+      ne-eqb n 20 (λ z. omega arith),
+      ne-eqb n 21 (λ z. omega arith),
       ne-eqb n 23 (λ z. omega arith),
       ne-eqb n 24 (λ z. omega arith),
       and-false (leb 1 n),

@@ -38,9 +38,9 @@ hotRanged h =
     leb (h .bytes) (byteLimit + 1) && leb (h .lines) (h .bytes) && leb (h .last) rowCount && leb (h .since) (h .bytes)
     && leb (h .says) mostSays && lineRanged h
 
--- the numbers of the rules that the bytes or their end can break: 01's 1 to 16, and 02's 23 and 24
+-- the numbers of the rules that the bytes or their end can break: 01's 1 to 16, and 02's 20, 21, 23 and 24
 abbrev pub isRule : ℕ → Bool
-isRule n = leb 1 n && leb n 16 || eqb n 23 || eqb n 24
+isRule n = leb 1 n && leb n 16 || eqb n 20 || eqb n 21 || eqb n 23 || eqb n 24
 
 -- 02, request e: "a position, 0 for all but 2 and 10", of a byte that has been judged
 unfoldable pub positionRanged : ℕ → ℕ → ℕ → Bool
@@ -55,7 +55,7 @@ refusalRanged rule field position bytes =
 
 -- what is kept for each row and each block: a count for each row and a total for each block, as the arrays' types say; what is stated
 -- of each row and of no row; "and totals whose sum differs from a stored number of lines ended". (So no count or total is above the
--- lines ended.)
+-- lines ended. A pair of dates is only compared: any number may stand for one.)
 unfoldable pub tallyRanged : Tally → ℕ → ℕ → Bool
 tallyRanged t lines bytes =
     eqb (length (t .counts)) rowCount && eqb (length (t .totals)) blocks

@@ -18,7 +18,7 @@ pub struct Numbers {
 pub enum Answer {
     // nothing is refused so far: lines ended, bytes judged
     Open(u64, u64),
-    // 1 to 16, 23 and 24: a rule is broken
+    // 1 to 16, 20, 21, 23 and 24: a rule is broken
     Refused(Numbers),
     // 17: a piece after finish
     Late,
@@ -30,7 +30,7 @@ pub enum Answer {
 pub enum FinalAnswer {
     // lines ended, bytes judged
     Accepted(u64, u64),
-    // 1 to 16, 23 and 24: a rule is broken
+    // 1 to 16, 20, 21, 23 and 24: a rule is broken
     Refused(Numbers),
     // 17: a finish after finish
     Late,

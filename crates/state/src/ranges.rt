@@ -16,6 +16,8 @@ use layout::kinds::KIND_MOST;
 use layout::rows::FIELDS_MOST;
 use layout::rows::ROWS;
 use line::hot::Hot;
+use line::periods::PAIR_SEEN;
+use line::periods::PAIR_TOO_MANY;
 use line::statements::NUMBER_UNIT;
 use line::statements::UNTRUE;
 use line::step::CONTROL_BYTE;
@@ -112,7 +114,11 @@ fn hot_ranged(h: Hot) -> bool
 fn is_rule(n: u64) -> bool
     ensures { λ t. ⌜ t ≡ isRule n ⌝ }
 {
-    (1 <= n) & (n <= TOO_LONG) | (n == UNTRUE_STATEMENT) | (n == WRONG_CHECK_DIGIT)
+    (1 <= n) & (n <= TOO_LONG)
+        | (n == PAIR_SEEN)
+        | (n == PAIR_TOO_MANY)
+        | (n == UNTRUE_STATEMENT)
+        | (n == WRONG_CHECK_DIGIT)
 }
 
 // Only 2 and 10 give a position, and it is that of a byte that has been judged.
@@ -135,7 +141,7 @@ fn refusal_ranged(rule: u64, field: u64, position: u64, bytes: u64) -> bool
     is_rule(rule) & (field <= BARS_MOST) & position_ranged(rule, position, bytes)
 }
 
-// What is kept for each row and each block.
+// What is kept for each row and each block. Of a pair of dates any number is in range: it is only compared.
 fn tally_ranged(tally: Tally, lines: u64, bytes: u64) -> bool
     ensures { λ t. ⌜ t ≡ tallyRanged tally lines bytes ⌝ }
 {

@@ -9,11 +9,12 @@ use Rattle.piece.proofs.run.judge_all.Statement.{statement}
 use Rattle.piece.proofs.run.judge_all.Tie as tie
 
 abbrev Inv-loop : tie.InvT-loop
-Inv-loop rows parents kinds starts slots piece h₀ counts₀ stamps₀ occurrences₀ totals₀ stated₀ i₀ h counts stamps occurrences totals stated i =
-    Going piece h₀ (tallyOf counts₀ stamps₀ occurrences₀ totals₀ stated₀) h (tallyOf counts stamps occurrences totals stated) i
+Inv-loop rows parents kinds starts slots piece h₀ counts₀ stamps₀ occurrences₀ totals₀ stated₀ pairs₀ i₀ h counts stamps occurrences totals stated pairs i =
+    Going piece h₀ (tallyOf counts₀ stamps₀ occurrences₀ totals₀ stated₀ pairs₀) h
+    (tallyOf counts stamps occurrences totals stated pairs) i
 
 abbrev μ-loop : tie.MeasureT-loop
-μ-loop rows parents kinds starts slots piece h₀ counts₀ stamps₀ occurrences₀ totals₀ stated₀ i₀ h counts stamps occurrences totals stated i =
+μ-loop rows parents kinds starts slots piece h₀ counts₀ stamps₀ occurrences₀ totals₀ stated₀ pairs₀ i₀ h counts stamps occurrences totals stated pairs i =
     length piece - i
 
 loop-holds : tie.Need-loop-holds Inv-loop μ-loop
@@ -24,8 +25,8 @@ shared-slice-read-b c = search needs
 
 judge-requires : tie.Need-judge-requires Inv-loop μ-loop
 judge-requires c κs =
-    let at = c .before .before .before .before .before .before in
-    let start = at .before .before .before .before .before .before .before in
+    let at = c .before .before .before .before .before .before .before in
+    let start = at .before .before .before .before .before .before .before .before in
     let held = at .loop .inv .held in
     (held .fit, (start .pre .0, held-small _ _ held))
 
@@ -45,7 +46,7 @@ returns : tie.Need-returns Inv-loop μ-loop
 returns c =
     let told = c .before .before in
     let judged = told .before .before in
-    let turn = judged .before .before .before .before .before .before in
+    let turn = judged .before .before .before .before .before .before .before in
     let at = turn .before .loop in
     going-stop (at .inv) (turn .loop-test .taken) _ _ _ (judged .judge .ensures) (told .enum-told .given .1) _
     (c .before .tally-of .ensures) _ (c .ended-by .ensures)
@@ -53,44 +54,46 @@ returns c =
 totalled-requires : tie.Need-totalled-requires Inv-loop μ-loop
 totalled-requires c κs =
     let judged = c .before .before .before .before in
-    let at = judged .before .before .before .before .before .before .before in
-    let start = at .before .before .before .before .before .before .before in
+    let at = judged .before .before .before .before .before .before .before .before in
+    let start = at .before .before .before .before .before .before .before .before in
     let held = at .loop .inv .held in
     (held .fit, (start .pre .0 .rows, held-totals _ _ held))
 
 noted-requires : tie.Need-noted-requires Inv-loop μ-loop
 noted-requires c κs =
-    let judged = c .before .before .before .before .before .before .before .before in
-    let at = judged .before .before .before .before .before .before .before in
-    let start = at .before .before .before .before .before .before .before in
+    let judged = c .before .before .before .before .before .before .before .before .before in
+    let at = judged .before .before .before .before .before .before .before .before in
+    let start = at .before .before .before .before .before .before .before .before in
     let held = at .loop .inv .held in
-    (start .pre .0 .parents, (held .fit, (held-counts _ _ held, held .tally .occurrences)))
+    ((start .pre .0 .rows, start .pre .0 .parents), (held .fit, (held-counts _ _ held, held .tally .occurrences)))
 
 stated-with-requires : tie.Need-stated-with-requires Inv-loop μ-loop
 stated-with-requires c κs = search needs
 
 add-i : tie.Need-add-i Inv-loop μ-loop
 add-i c =
-    let judged = c .before .before .before .before .before .before .before .before .before .before .before in
-    let turn = judged .before .before .before .before .before .before in
-    omega (arith, turn .loop-test .taken, turn .before .before .before .before .before .before .before .before .good)
+    let judged = c .before .before .before .before .before .before .before .before .before .before .before .before in
+    let turn = judged .before .before .before .before .before .before .before in
+    omega (arith, turn .loop-test .taken, turn .before .before .before .before .before .before .before .before .before .good)
 
 loop-less : tie.Need-loop-less Inv-loop μ-loop
-loop-less c = search needs
+loop-less c =
+    let judged = c .before .before .before .before .before .before .before .before .before .before .before .before in
+    omega (arith, judged .before .before .before .before .before .before .before .loop-test .taken)
 
 loop-again : tie.Need-loop-again Inv-loop μ-loop
 loop-again c =
     let noted = c .before .before in
-    let totalled = noted .before .before .before .before in
+    let totalled = noted .before .before .before .before .before in
     let told = totalled .before .before .before in
     let judged = told .before .before in
-    let turn = judged .before .before .before .before .before .before in
+    let turn = judged .before .before .before .before .before .before .before in
     let at = turn .before .loop in
-    let byte = turn .before .before .before .before .before .before .before .shared-slice-known .given (at .i) in
+    let byte = turn .before .before .before .before .before .before .before .before .shared-slice-known .given (at .i) in
     let goes = sym (judged .judge .ensures) ∙ told .t .given .1 in
     let e = noted .noted .ensures in
-    going-next (at .inv) (turn .loop-test .taken) (byte .fits) _ goes _ _ _ _ _ (e .0) (e .1 .0) (e .1 .1)
-    (totalled .totalled .ensures) (c .stated-with .ensures)
+    going-next (at .inv) (turn .loop-test .taken) (byte .fits) _ goes _ _ _ _ _ _ (e .0) (e .1 .0) (e .1 .1 .0)
+    (totalled .totalled .ensures) (c .stated-with .ensures) (e .1 .1 .1)
 
 tally-of-requires-2 : tie.Need-tally-of-requires-2 Inv-loop μ-loop
 tally-of-requires-2 c κs = search needs

@@ -2,7 +2,7 @@ use borrow.Author.Needs.{needs}
 use borrow.Author.Tests.{eq-eqb, ne-eqb}
 use mathlib.Core.Path.{refl}
 use native.Mathlib.Omega.{arith}
-use Rattle.piece.specs.Piece.{countsWith, stampsWith, occurrencesWith}
+use Rattle.piece.specs.Piece.{countsWith, stampsWith, occurrencesWith, pairsWith}
 use Rattle.line.proofs.StatementLaws.{entry-most}
 use Rattle.piece.proofs.TallyRanges.{used-le}
 use Rattle.piece.proofs.run.noted.Statement.{statement}
@@ -14,9 +14,12 @@ used-requires c κs = search needs
 entry-requires : tie.Need-entry-requires
 entry-requires c κs = search needs
 
+paired-requires : tie.Need-paired-requires
+paired-requires c κs = search needs
+
 add-put : tie.Need-add-put
 add-put c =
-    let start = c .before .before .before .before .before .before .before in
+    let start = c .before .before .before .before .before .before .before .before .before in
     omega (arith, entry-most _ (start .args .counts .now) (start .pre .1 .1 .0) (start .args .h .row))
 
 put-requires : tie.Need-put-requires
@@ -27,7 +30,7 @@ put-requires-2 c κs = search needs
 
 add-put-2 : tie.Need-add-put-2
 add-put-2 c =
-    let start = c .before .before .before .before .before .before .before .before .before .before .before in
+    let start = c .before .before .before .before .before .before .before .before .before .before .before .before .before in
     let args = start .args in
     omega (arith, used-le _ (args .h .row) (args .stamps .now) (args .occurrences .now) (start .pre .1 .1 .1))
 
@@ -35,19 +38,21 @@ put-requires-3 : tie.Need-put-requires-3
 put-requires-3 c κs = search needs
 
 returns : tie.Need-returns
-unfolding countsWith stampsWith occurrencesWith
+unfolding countsWith stampsWith occurrencesWith pairsWith
 returns c =
     let put = c .before .before .before .before in
-    let used = put .before .before .before .before in
+    let paired = put .before .before in
+    let entry = paired .before .before in
+    let used = entry .before .before in
     rw (
       eq-eqb _ _ (used .before .before .before .if1 .taken),
       ← used .used .ensures,
-      ← put .before .before .entry .ensures,
-    ) (put .put .ensures, (c .before .before .put2 .ensures, c .put3 .ensures))
+      ← entry .entry .ensures,
+    ) (put .put .ensures, (c .before .before .put2 .ensures, (c .put3 .ensures, paired .paired .ensures)))
 
 returns-2 : tie.Need-returns-2
-unfolding countsWith stampsWith occurrencesWith
-returns-2 c = rw (ne-eqb _ _ (c .if1 .left)) (refl, (refl, refl))
+unfolding countsWith stampsWith occurrencesWith pairsWith
+returns-2 c = rw (ne-eqb _ _ (c .if1 .left)) (refl, (refl, (refl, refl)))
 
 pub noted-spec : {M : Type 1} → statement M
 noted-spec =
@@ -55,6 +60,7 @@ noted-spec =
     (tie.spec
     used-requires
     entry-requires
+    paired-requires
     add-put
     put-requires
     put-requires-2
