@@ -2,7 +2,7 @@
 .PHONY: test compare bench peer long kit cargo
 
 SEED = 1
-CASES = 55000
+CASES = 58500
 
 test: kit cargo
 	@tools/test
