@@ -13,7 +13,7 @@ use Rattle.layout.specs.Periods.{firstDate, laterDate}
 use Rattle.rules.specs.Bytes.{field, rowOf}
 use Rattle.rules.specs.Counts.{linesOfRow}
 use Rattle.rules.specs.Periods.{samePair, seenBefore, crowded, mostPairs, NewPair, PairsOnce, differentPairs}
-use Rattle.rules.specs.Periods.{DifferentPairs}
+use Rattle.rules.specs.Periods.{DifferentPairs, SixtyFifthPair}
 use Rattle.layout.proofs.PeriodLaws.{dates-order}
 use Rattle.rules.proofs.CountLaws.{lines-here, lines-past}
 
@@ -47,6 +47,10 @@ different-pairs r some (line ∷ before) once = go (ℕ-discrete (rowOf line) r)
         ≡ linesOfRow r (rowOf line ∷ map rowOf before)
     go (yes e) ih = rw (eq-eqb (rowOf line) r e, new e) (ap suc ih ∙ sym (lines-here r (rowOf line) (map rowOf before) e))
     go (no e) ih = rw (ne-eqb (rowOf line) r e) (ih ∙ sym (lines-past r (rowOf line) (map rowOf before) e))
+
+pub sixty-fifth-pair : SixtyFifthPair
+unfolding crowded
+sixty-fifth-pair line before some once = rw (different-pairs (rowOf line) some before once)
 
 -- a row has at most 64 pairs
 pub pairs-most : (r : ℕ) → 1 ≤ laterDate r → (lines : List (List ℕ)) → PairsOnce lines → linesOfRow r (map rowOf lines) ≤ mostPairs

@@ -28,7 +28,7 @@ abbrev pub mostPairs : ℕ
 mostPairs = 64
 
 -- "a 65th different pair", if it is new: the row has 64 lines before. (No pair passes twice, so these have 64 different pairs, as
--- DifferentPairs says.)
+-- SixtyFifthPair says.)
 unfoldable pub crowded : List ℕ → List (List ℕ) → Bool
 crowded line before = leb mostPairs (linesOfRow (rowOf line) (map rowOf before))
 
@@ -48,9 +48,14 @@ differentPairs r (line ∷ before) =
     let rest = differentPairs r before in
     pick (eqb (rowOf line) r && not (seenBefore line before)) (suc rest) rest
 
--- That 21 is "a 65th different pair", in 02's own words: the lines of the row are as many as their different pairs. Proved in
--- proofs/PeriodLaws.antt under this name, in small letters.
+-- That 21 is "a 65th different pair", in 02's own words: the lines of a row are as many as their different pairs, so `crowded` asks
+-- whether the lines before have 64 different pairs already. Both are proved in proofs/PeriodLaws.antt under these names, in small letters.
 abbrev pub DifferentPairs : Type 0
 DifferentPairs =
     (r : ℕ) → 1 ≤ laterDate r → (lines : List (List ℕ)) → PairsOnce lines
     → differentPairs r lines ≡ linesOfRow r (map rowOf lines)
+
+abbrev pub SixtyFifthPair : Type 0
+SixtyFifthPair =
+    (line : List ℕ) (before : List (List ℕ)) → 1 ≤ laterDate (rowOf line) → PairsOnce before
+    → crowded line before ≡ leb 64 (differentPairs (rowOf line) before)
