@@ -22,6 +22,16 @@ pub enum Final {
     Refused { number: u8, line: u64, field: u64, position: u64, lines: u64, bytes: u64 },
 }
 
+impl Final {
+    /// The refusal's number, 0 if there is none.
+    pub fn number(&self) -> u8 {
+        match self {
+            Final::Accepted { .. } => 0,
+            Final::Refused { number, .. } => *number,
+        }
+    }
+}
+
 pub fn verdict(bytes: &[u8]) -> Verdict {
     verdict_within(bytes, BYTE_LIMIT)
 }

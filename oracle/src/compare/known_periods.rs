@@ -317,13 +317,6 @@ mod tests {
     use crate::compare::Plan;
     use crate::{finish, Final, BAR, LF};
 
-    fn number(bytes: &[u8]) -> u8 {
-        match finish(bytes) {
-            Final::Accepted { .. } => 0,
-            Final::Refused { number, .. } => number,
-        }
-    }
-
     fn wanted() -> Vec<u8> {
         let known = [&FIRST[..], &PAIRS, &WRONG, &OTHER_FIELDS, &OTHER_LINES];
         let numbers = |list: &[Known]| -> Vec<u8> { list.iter().map(|known| known.1).collect() };
@@ -342,7 +335,7 @@ mod tests {
         let files = [first_periods(), other_periods()].concat();
         assert_eq!(files.len(), wanted().len());
         for (file, wanted) in files.iter().zip(wanted()) {
-            assert_eq!(number(&file.bytes), wanted, "{}", file.about);
+            assert_eq!(finish(&file.bytes).number(), wanted, "{}", file.about);
         }
     }
 

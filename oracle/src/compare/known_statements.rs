@@ -226,13 +226,6 @@ mod tests {
     use crate::compare::Plan;
     use crate::{finish, Final};
 
-    fn number(bytes: &[u8]) -> u8 {
-        match finish(bytes) {
-            Final::Accepted { .. } => 0,
-            Final::Refused { number, .. } => number,
-        }
-    }
-
     #[test]
     fn numbers_worked_out_by_hand() {
         let wanted = ONE.iter().map(|one| one.1).chain(SEVERAL.iter().map(|several| several.1));
@@ -242,7 +235,7 @@ mod tests {
         let files = [first_statements(), other_statements()].concat();
         assert_eq!(files.len(), wanted.len());
         for (file, wanted) in files.iter().zip(wanted) {
-            assert_eq!(number(&file.bytes), wanted, "{}", file.about);
+            assert_eq!(finish(&file.bytes).number(), wanted, "{}", file.about);
         }
     }
 

@@ -131,15 +131,8 @@ fn files_of_two_rows() -> Vec<File> {
 #[cfg(test)]
 mod tests {
     use super::*;
-    use crate::{finish, Final};
+    use crate::finish;
     use std::collections::BTreeMap;
-
-    fn number(bytes: &[u8]) -> u8 {
-        match finish(bytes) {
-            Final::Accepted { .. } => 0,
-            Final::Refused { number, .. } => number,
-        }
-    }
 
     /// With all lines below it each row stands with two periods, and not with one
     /// twice.
@@ -147,7 +140,7 @@ mod tests {
     fn lines_below_stand() {
         for row in rows_with_periods() {
             let files = files_with_lines_below(row);
-            let numbers: Vec<u8> = files.iter().map(|file| number(&file.bytes)).collect();
+            let numbers: Vec<u8> = files.iter().map(|file| finish(&file.bytes).number()).collect();
             assert_eq!(numbers, [20, 0, 20, 20, 20], "{}", rows()[row].code);
         }
     }
@@ -156,7 +149,7 @@ mod tests {
     #[test]
     fn two_rows_beside_each_other() {
         for files in files_of_two_rows().chunks(4) {
-            let numbers: Vec<u8> = files.iter().map(|file| number(&file.bytes)).collect();
+            let numbers: Vec<u8> = files.iter().map(|file| finish(&file.bytes).number()).collect();
             assert_eq!(numbers, [0, 20, 20, 0], "{}", files[0].about);
         }
     }
@@ -165,7 +158,7 @@ mod tests {
     fn numbers_of_the_files() {
         let mut numbers: BTreeMap<u8, usize> = BTreeMap::new();
         for file in period_files(&mut Random::from_seed(1)) {
-            *numbers.entry(number(&file.bytes)).or_default() += 1;
+            *numbers.entry(finish(&file.bytes).number()).or_default() += 1;
         }
         let least = [(0, 700), (10, 100), (11, 100), (12, 100), (14, 200), (20, 400), (21, 50)];
         for (number, least) in least {
