@@ -1,9 +1,10 @@
 -- The rules of a pair, asked where the bar stands after the later date of a row that has a period.
-use mathlib.Core.Path.{_≡_, _∙_, refl, sym, ap}
+use mathlib.Core.Path.{_≡_, _∙_, refl, sym}
 use mathlib.Core.Bool.{Bool, true, false, not}
 use mathlib.Core.List.{List}
-use Prim.Native.Nat.{ℕ, _*_, _<_, _≤_}
+use Prim.Native.Nat.{ℕ, _*_, _≤_}
 use native.Mathlib.Omega.{arith}
+use lib.Dec.{leb}
 use lib.ListN.{getD}
 use borrow.Author.Needs.{needs}
 use borrow.Author.Tests.{eq-eqb, ne-eqb, le-ltb, lt-leb, le-leb}
@@ -40,30 +41,19 @@ module _ (h : Hot) (counts pairs : List ℕ) (place : ℕ) (at-place : place ≡
     unfolding pairRuleOf
     other ne = rw (later-is, ne-eqb (h .bars) later ne)
 
-    asked : h .bars ≡ later → rule ≡ pick (repeatedOf h counts pairs) 20 (pick (crowdedOf h counts) 21 0)
-    unfolding pairRuleOf
-    asked e = rw (later-is, eq-eqb (h .bars) later e)
+    -- the search found the pair, or did not
+    asked : h .bars ≡ later → (from n v : ℕ) → from ≡ mostPairs * place → n ≡ pairsKept counts (h .row) → v ≡ datesOf h → (t : Bool)
+        → t ≡ not (noneIs pairs from n v) → rule ≡ pick t 20 (pick (crowdedOf h counts) 21 0)
+    unfolding pairRuleOf repeatedOf
+    asked e from n v f k d t is =
+        rw (later-is, eq-eqb (h .bars) later e, ← at-place, ← k, ← d, ← f, ← is)
 
-  -- what the search finds
-  found : (from n v : ℕ) → from ≡ mostPairs * place → n ≡ pairsKept counts (h .row) → v ≡ datesOf h → (t : Bool)
-      → t ≡ not (noneIs pairs from n v) → repeatedOf h counts pairs ≡ t
-  unfolding repeatedOf
-  found from n v f k d t e = rw (← at-place, ← k, ← d) (ap (λ p. not (noneIs pairs p n v)) (sym f) ∙ sym e)
-
-  seen : {later : ℕ} → later ≡ getD laterDates place 0 → h .bars ≡ later → repeatedOf h counts pairs ≡ true → rule ≡ 20
-  seen {later} l e t = asked later l e ∙ rw t
-
-  new : {later : ℕ} → later ≡ getD laterDates place 0 → h .bars ≡ later → repeatedOf h counts pairs ≡ false
-      → (full : Bool) → crowdedOf h counts ≡ full → rule ≡ pick full 21 0
-  new {later} l e t full q = asked later l e ∙ rw (t, q)
-
-  room : (ended : ℕ) → ended ≡ entryOf counts (h .row) → ended < mostPairs → crowdedOf h counts ≡ false
-  unfolding crowdedOf
-  room ended e l = rw (← e) (lt-leb mostPairs ended l)
-
-  full : (ended : ℕ) → ended ≡ entryOf counts (h .row) → mostPairs ≤ ended → crowdedOf h counts ≡ true
-  unfolding crowdedOf
-  full ended e l = rw (← e) (le-leb mostPairs ended l)
+    -- it did not, and so many lines have ended
+    new : h .bars ≡ later → (from n v : ℕ) → from ≡ mostPairs * place → n ≡ pairsKept counts (h .row) → v ≡ datesOf h
+        → false ≡ not (noneIs pairs from n v) → (ended : ℕ) → ended ≡ entryOf counts (h .row) → (t : Bool)
+        → leb mostPairs ended ≡ t → _≡_ {A = ℕ} rule (pick t 21 0)
+    unfolding crowdedOf
+    new e from n v f k d is ended count t q = asked e from n v f k d false is ∙ rw (← count, q)
 
 period-at-requires : tie.Need-period-at-requires
 period-at-requires c κs = search needs
@@ -97,43 +87,32 @@ is-among-requires c κs =
 
 returns-3 : tie.Need-returns-3
 returns-3 c =
-    let search = c .before .before .before .before in
-    let at = search .before .before in
-    let place = at .before .before .period-at .ensures in
-    let among = c .before .is-among .ensures in
-    let is = found _ _ _ _ place _ _ _ refl (c .before .before .before .kept .ensures) (c .before .before .dates .ensures) _ among in
-    sym (seen _ _ _ _ place (at .later-at .ensures) (search .if2 .left) (is ∙ c .if3 .taken))
+    let dates = c .before .before in
+    let here = dates .before .before in
+    let at = here .before .before in
+    sym (asked _ _ _ _ (at .before .before .period-at .ensures) _ (at .later-at .ensures) (here .if2 .left) _ _ _ refl
+    (dates .before .kept .ensures) (dates .dates .ensures) true (sym (c .if3 .taken) ∙ c .before .is-among .ensures))
 
 entry-requires : tie.Need-entry-requires
 entry-requires c κs = search needs
 
 returns-4 : tie.Need-returns-4
 returns-4 c =
-    let start = c .before .before .before .before .before .before in
-    let at = start .before .before in
-    let place = at .before .before .period-at .ensures in
-    let among = c .before .before .before .is-among .ensures in
-    let is =
-    found _ _ _ _ place _ _ _ refl (c .before .before .before .before .before .kept .ensures)
-    (c .before .before .before .before .dates .ensures) _ among
-    in
-    let left = room _ _ (start .before .before .before .before .before .args .pairs .now) _ place _ (c .before .entry .ensures) (c .if4 .taken) in
-    sym (new _ _ _ _ place (at .later-at .ensures) (start .if2 .left) (is ∙ c .before .before .if3 .left) false left)
+    let dates = c .before .before .before .before in
+    let here = dates .before .before in
+    let at = here .before .before in
+    sym (new _ _ _ _ (at .before .before .period-at .ensures) _ (at .later-at .ensures) (here .if2 .left) _ _ _ refl
+    (dates .before .kept .ensures) (dates .dates .ensures)
+    (sym (c .before .before .if3 .left) ∙ c .before .before .before .is-among .ensures) _ (c .before .entry .ensures) false (lt-leb mostPairs _ (c .if4 .taken)))
 
 returns-5 : tie.Need-returns-5
 returns-5 c =
-    let start = c .before .before .before .before .before .before in
-    let at = start .before .before in
-    let place = at .before .before .period-at .ensures in
-    let among = c .before .before .before .is-among .ensures in
-    let is =
-    found _ _ _ _ place _ _ _ refl (c .before .before .before .before .before .kept .ensures)
-    (c .before .before .before .before .dates .ensures) _ among
-    in
-    let none-left =
-    full _ _ (start .before .before .before .before .before .args .pairs .now) _ place _ (c .before .entry .ensures) (omega arith)
-    in
-    sym (new _ _ _ _ place (at .later-at .ensures) (start .if2 .left) (is ∙ c .before .before .if3 .left) true none-left)
+    let dates = c .before .before .before .before in
+    let here = dates .before .before in
+    let at = here .before .before in
+    sym (new _ _ _ _ (at .before .before .period-at .ensures) _ (at .later-at .ensures) (here .if2 .left) _ _ _ refl
+    (dates .before .kept .ensures) (dates .dates .ensures)
+    (sym (c .before .before .if3 .left) ∙ c .before .before .before .is-among .ensures) _ (c .before .entry .ensures) true (le-leb mostPairs (c .before .entry .result) (omega arith)))
 
 pub pair-rule-spec : {M : Type 1} → statement M
 pair-rule-spec =
