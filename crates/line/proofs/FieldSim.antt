@@ -33,7 +33,7 @@ use Rattle.field.specs.Ruled.{ruled}
 use Rattle.field.proofs.FaultLaws.{fault-is}
 use Rattle.field.proofs.OpeningLaws.{opens-zero}
 use Rattle.line.specs.Machine.{dueOf, Asked, pairRuleOf, askedRuleOf, foundOf}
-use Rattle.line.proofs.KindLaws.{count-row}
+use Rattle.rules.proofs.CountKinds.{count-row}
 use Rattle.line.proofs.DateLaws.{dates-kinds}
 use Rattle.line.proofs.HotOf.{hotOf, pick-same, OpeningTold}
 

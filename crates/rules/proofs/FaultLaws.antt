@@ -128,7 +128,7 @@ module _ (seen : List ℕ) where
   unfolding inField
   in-bars e = ltb-true 0 (bars seen) (and-left (ltb 0 (bars seen)) (leb (bars seen) (fields (rowAtHand seen))) e)
 
-  past-in : pastFields seen ≡ true → inField seen ≡ false
+  pub past-in : pastFields seen ≡ true → inField seen ≡ false
   unfolding inField
   past-in e = rw (lt-leb (bars seen) (fields (rowAtHand seen)) (past-fields seen e)) (and-false (ltb 0 (bars seen)))
 

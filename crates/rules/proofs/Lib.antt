@@ -4,6 +4,7 @@ pub mod AllRows
 pub mod CountLaws
 pub mod OccurrenceLaws
 pub mod StandLaws
+pub mod CountKinds
 pub mod OpenLaws
 pub mod NextLineLaws
 pub mod BlockLaws
@@ -13,6 +14,8 @@ pub mod FaultLaws
 pub mod CleanLaws
 pub mod PeriodLaws
 pub mod SoundLaws
+pub mod LineLaws
+pub mod FileLaws
 pub mod StatedLaws
 pub mod TotalLaws
 pub mod FollowsLaws

@@ -1,6 +1,6 @@
 -- What holds of a clean history: its lines stand, their fields passed their bars, and the line at hand is on its way to that.
 use mathlib.Core.Path.{_≡_, _∙_, refl, sym, ap}
-use mathlib.Core.Bool.{true, false, not, _&&_, _||_}
+use mathlib.Core.Bool.{true, false, not, _&&_}
 use mathlib.Core.List.{List, [], _∷_, map}
 use Prim.Native.Nat.{ℕ, suc, _≤_, _<_}
 use native.Mathlib.Omega.{arith}
@@ -10,19 +10,20 @@ use lib.ListN.{length}
 use borrow.Author.Tests.{eq-eqb, ne-eqb, eqb-true, eqb-false, not-false}
 use Rattle.layout.specs.Pick.{pick}
 use Rattle.layout.specs.Text.{codeNumber}
-use Rattle.layout.specs.Rows.{none, rowCount, rowOfCode, fields, isClosing, row9999}
+use Rattle.layout.specs.Rows.{none, rowCount, rowOfCode, fields, row9999}
 use Rattle.layout.specs.Kinds.{kind}
 use Rattle.layout.specs.Periods.{laterDate}
 use Rattle.rules.specs.Bytes.{bar, LF, lines, lineAtHand, field, rowOfWord, rowOf}
 use Rattle.rules.specs.Bytes.{rows, rowAtHand, bars, word, empty, isEndByte, cut}
-use Rattle.rules.specs.Order.{canStand, hasRoom, isData}
+use Rattle.rules.specs.Order.{canStand, hasRoom}
 use Rattle.rules.specs.Counts.{due}
 use Rattle.rules.specs.Fields.{formOf, states}
 use Rattle.rules.specs.Periods.{seenBefore, crowded, NewPair, PairsOnce}
 use Rattle.rules.specs.Statements.{allTrue}
 use Rattle.rules.specs.Rules.{clear, rules, firstBroken, fault, inField}
-use Rattle.rules.specs.Rules.{pastFields, rowToBe, formAtHand, openedBy, byteLimit, controlByte}
+use Rattle.rules.specs.Rules.{pastFields, rowToBe, formAtHand, byteLimit, controlByte}
 use Rattle.rules.specs.Rules.{isPairBar, withBar}
+use Rattle.rules.specs.ByLines.{againstOpening}
 use Rattle.rules.proofs.TestLaws.{split, pick-le, pick-clear, broken-clear, then-holds}
 use Rattle.layout.proofs.CodeLaws.{row-of-code-le}
 use Rattle.layout.proofs.RowLaws.{fields-two}
@@ -66,6 +67,7 @@ pub record Sound (seen : List ℕ) : Type 0 where
   pub once : PairsOnce (lines seen)
   -- the line at hand: its row once its code has come, its bars, its fields that have ended
   pub known : 2 ≤ bars seen → Known (rowAtHand seen) (rows seen)
+  pub opened : 2 ≤ bars seen → againstOpening (rowAtHand seen) (lines seen) ≡ false
   pub within : bars seen ≤ suc (fields (rowAtHand seen))
   pub passing : (n : ℕ) → 2 ≤ n → n < bars seen → Passed (rowAtHand seen) (rows seen) n (field n (lineAtHand seen))
   -- rule 23 has been judged once field 2 of 9999 has ended
@@ -84,15 +86,16 @@ word-row-known w e =
     omega arith
 
 -- a bar after field 1 that breaks no rule gives a row that can stand here
-pub code-known : (seen : List ℕ) → codeFault seen ≡ clear → Known (rowToBe seen) (rows seen)
+code-clear : (seen : List ℕ) → codeFault seen ≡ clear
+    → Known (rowToBe seen) (rows seen) × (againstOpening (rowToBe seen) (lines seen) ≡ false)
 unfolding rowToBe
-code-known seen e =
+code-clear seen e =
     let r = rowOfWord (word seen) in
     let three = pick-clear (eqb r none) 3 1 0 _ e in
     let four = pick-clear (not (canStand r (rows seen))) 4 1 0 _ (three .1) in
-    let five = pick-clear (isData r && openedBy "1" (lines seen) || isClosing r && openedBy "0" (lines seen)) 5 1 0 _ (four .1) in
+    let five = pick-clear (againstOpening r (lines seen)) 5 1 0 _ (four .1) in
     let six = pick-clear (not (hasRoom r (rows seen))) 6 1 0 _ (five .1) in
-    (word-row-known (word seen) (three .0), not-false _ (four .0), not-false _ (six .0))
+    ((word-row-known (word seen) (three .0), not-false _ (four .0), not-false _ (six .0)), five .0)
 
 -- a bar after a later field that breaks no rule: the field passed; after the later date the pair is new; and after field 2 of 9999 the
 -- 9900 lines are true
@@ -144,7 +147,7 @@ lf-past seen e = go (place seen)
     go (ends h p) = p
 
 -- a period's later date is a field after the code
-later-in : (r : ℕ) → r < rowCount → 1 ≤ laterDate r → (2 ≤ laterDate r) × (laterDate r ≤ fields r)
+pub later-in : (r : ℕ) → r < rowCount → 1 ≤ laterDate r → (2 ≤ laterDate r) × (laterDate r ≤ fields r)
 later-in r known some =
     let e = later-some r some in
     (omega (arith, first-after r known e, dates-order r), later-inside r known e)
@@ -163,6 +166,7 @@ sound-lf seen s small e =
       told = rw (lines-lf seen) (λ is. s .telling (omega (arith, ap fields is, fields-9999)) is, s .told);
       once = rw (lines-lf seen) (λ some. s .pairing some (omega (arith, later-in (rowAtHand seen) (row .0) some)), s .once);
       known = λ h. absurd (omega arith);
+      opened = λ h. absurd (omega arith);
       within = omega arith;
       passing = λ n h l. absurd (omega arith);
       telling = λ h is. absurd (omega arith);
@@ -179,13 +183,14 @@ module _ (seen : List ℕ) (e : firstBroken rules seen bar ≡ clear) where
       let q = sym (fault-past seen bar p) ∙ e in
       split (empty (word seen)) (λ t. broken-clear 8 (bars seen) 0 (rw t at q)) (λ t. broken-clear 9 0 0 (rw t at q))
 
-  known-bar : Sound seen → 2 ≤ bars (bar ∷ seen) → Known (rowAtHand (bar ∷ seen)) (rows (bar ∷ seen))
-  known-bar s h = rw (rows-bar seen) (go (place seen))
+  known-bar : Sound seen → 2 ≤ bars (bar ∷ seen)
+      → Known (rowAtHand (bar ∷ seen)) (rows seen) × (againstOpening (rowAtHand (bar ∷ seen)) (lines seen) ≡ false)
+  known-bar s h = go (place seen)
     where
-      go : Place seen → Known (rowAtHand (bar ∷ seen)) (rows seen)
+      go : Place seen → Known (rowAtHand (bar ∷ seen)) (rows seen) × (againstOpening (rowAtHand (bar ∷ seen)) (lines seen) ≡ false)
       go (starts z) = absurd (omega (arith, bars-bar seen))
-      go (codes d) = rw (row-code seen d) (code-known seen (sym (fault-code-bar seen d) ∙ e))
-      go (fills l i) = rw (row-later seen l) (s .known l)
+      go (codes d) = rw (row-code seen d) (code-clear seen (sym (fault-code-bar seen d) ∙ e))
+      go (fills l i) = rw (row-later seen l) (s .known l, s .opened l)
       go (ends l p) = bar-past p
 
   within-bar : Sound seen → bars (bar ∷ seen) ≤ suc (fields (rowAtHand (bar ∷ seen)))
@@ -194,7 +199,7 @@ module _ (seen : List ℕ) (e : firstBroken rules seen bar ≡ clear) where
       go : Place seen → suc (bars seen) ≤ suc (fields (rowAtHand (bar ∷ seen)))
       go (starts z) = omega arith
       go (codes d) =
-          let known = code-known seen (sym (fault-code-bar seen d) ∙ e) in
+          let known = code-clear seen (sym (fault-code-bar seen d) ∙ e) .0 in
           rw (row-code seen d) (omega (arith, fields-two (rowToBe seen) (known .0)))
       go (fills l i) = rw (row-later seen l) (omega (arith, in-fields seen i))
       go (ends l p) = bar-past p
@@ -235,7 +240,7 @@ module _ (seen : List ℕ) (e : firstBroken rules seen bar ≡ clear) where
       go : Place seen → NewPair (lineAtHand (bar ∷ seen)) (lines seen)
       go (starts z) = absurd (omega (arith, bars-bar seen))
       go (codes d) =
-          let known = code-known seen (sym (fault-code-bar seen d) ∙ e) in
+          let known = code-clear seen (sym (fault-code-bar seen d) ∙ e) .0 in
           let some′ : 1 ≤ laterDate (rowToBe seen) = rw (row-code seen d) at some in
           let l′ : laterDate (rowToBe seen) < bars (bar ∷ seen) = rw (row-code seen d) at l in
           absurd (omega (arith, bars-bar seen, later-in (rowToBe seen) (known .0) some′ .0))
@@ -260,7 +265,8 @@ module _ (seen : List ℕ) (e : firstBroken rules seen bar ≡ clear) where
         passed = rw (lines-bar seen) (s .passed);
         told = rw (lines-bar seen) (s .told);
         once = rw (lines-bar seen) (s .once);
-        known = known-bar s;
+        known = λ h. rw (rows-bar seen) (known-bar s h .0);
+        opened = λ h. rw (lines-bar seen) (known-bar s h .1);
         within = within-bar s;
         passing = passing-bar s;
         telling = telling-bar;
@@ -278,6 +284,7 @@ module _ (seen : List ℕ) (b : ℕ) (plain : eqb b LF ≡ false) (inner : eqb b
         told = rw (lines-on seen b plain) (s .told);
         once = rw (lines-on seen b plain) (s .once);
         known = rw (rows-on seen b plain, row-on seen b plain inner, bars-on seen b plain inner) (s .known);
+        opened = rw (lines-on seen b plain, row-on seen b plain inner, bars-on seen b plain inner) (s .opened);
         within = rw (row-on seen b plain inner, bars-on seen b plain inner) (s .within);
         passing = λ n h l.
             rw (rows-on seen b plain, row-on seen b plain inner, field-on seen b plain inner n)
@@ -312,6 +319,7 @@ sound-start =
       told = tt;
       once = tt;
       known = λ h. absurd (omega arith);
+      opened = λ h. absurd (omega arith);
       within = omega arith;
       passing = λ n h l. absurd (omega arith);
       telling = λ h is. absurd (omega arith);

@@ -70,3 +70,8 @@ pub then-holds : (a c : Bool) → (a && not c) ≡ false → a ≡ true → c �
 then-holds a true e h = refl
 then-holds true false e h = sym e
 then-holds false false e h = h
+
+-- and the other way: a test under a condition fails where it fails whenever that holds
+pub under-fails : (a c : Bool) → (a ≡ true → c ≡ false) → (a && c) ≡ false
+under-fails true c f = f refl
+under-fails false c f = refl

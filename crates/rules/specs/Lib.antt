@@ -10,4 +10,5 @@ pub mod Rules
 pub mod Verdict
 pub mod Totals
 pub mod Follows
+pub mod ByLines
 pub mod BareCases
