@@ -13,7 +13,7 @@ use borrow.Author.Tests.{ltb-false, not-true}
 use Rattle.layout.specs.Lists.{allBelow}
 use Rattle.layout.specs.Text.{bytes, codeNumber, textNumber}
 use Rattle.layout.specs.Rows.{rowTable, rowCount, none, rowFrom, rowOfCode, listed, code, fields, placeOf, isOpening, isClosing}
-use Rattle.layout.specs.Rows.{row9900, row9999}
+use Rattle.layout.specs.Rows.{level, row9900, row9999}
 use Rattle.layout.specs.Kind.{date}
 use Rattle.layout.specs.Sheets.{sheets}
 use Rattle.layout.specs.Kinds.{kindOf, sheetOf, fitted, kindsOf, kind}
@@ -56,12 +56,16 @@ dated r = allBelow (suc (fields r)) (λ n. equal (isDateField r n) (datedAt r n)
 abbrev isPlain : ℕ → Bool
 isPlain r = not (isOpening r) && not (eqb r row9900) && not (eqb r row9999)
 
+-- and it is of level 2
+abbrev isLevelTwo : ℕ → Bool
+isLevelTwo r = eqb (level r) 2
+
 computed : T (those rowCount hasPeriod atPlace) × T (those rowCount hasPeriod placed) × T (those rowCount hasPeriod dated)
-    × T (those rowCount hasPeriod isPlain)
-unfolding those allBelow periodOf periodCodes periods placeOf firstDate firstDates laterDate laterDates fields
+    × T (those rowCount hasPeriod isPlain) × T (those rowCount hasPeriod isLevelTwo)
+unfolding those allBelow periodOf periodCodes periods placeOf firstDate firstDates laterDate laterDates fields level
     kindNumber kind kindsOf fitted kindOf sheetOf sheets isOpening isClosing rowOfCode rowFrom code listed rowTable textNumber codeNumber
     bytes
-computed = (tt, tt, tt, tt)
+computed = (tt, tt, tt, tt, tt)
 
 module _ (r : ℕ) (h : r < rowCount) (e : hasPeriod r ≡ true) where
   at-place : rowOfCode (getD periodCodes (periodOf r) 0) ≡ r
@@ -96,6 +100,9 @@ module _ (r : ℕ) (h : r < rowCount) (e : hasPeriod r ≡ true) where
 
   pub period-9999 : eqb r row9999 ≡ false
   period-9999 = not-true _ (is-true _ (and-r (not (isOpening r) && not (eqb r row9900)) (not (eqb r row9999)) all-plain))
+
+  pub period-level : level r ≡ 2
+  period-level = eqb→eq (level r) 2 (those-at rowCount hasPeriod isLevelTwo (computed .4) r h e)
 
 -- no two rows have the same place
 pub own-place : (r q : ℕ) → r < rowCount → q < rowCount → hasPeriod r ≡ true → periodOf q ≡ periodOf r → q ≡ r

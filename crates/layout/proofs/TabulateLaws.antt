@@ -21,7 +21,7 @@ module _ {A : Type 0} where
   pub tabulate-past : (n : ℕ) (f : ℕ → A) (k : ℕ) (d : A) → n ≤ k → getD (tabulate n f) k d ≡ d
   tabulate-past n f k d h = List·getD-eq-default (tabulate n f) d (omega (arith, tabulate-length n f))
 
-  tabulate-same : (n : ℕ) (f g : ℕ → A) → ((k : ℕ) → f k ≡ g k) → tabulate n f ≡ tabulate n g
+  pub tabulate-same : (n : ℕ) (f g : ℕ → A) → ((k : ℕ) → f k ≡ g k) → tabulate n f ≡ tabulate n g
   unfolding tabulate
   tabulate-same zero f g e = refl
   tabulate-same (suc n) f g e = ap₂ _∷_ (e 0) (tabulate-same n (λ k. f (suc k)) (λ k. g (suc k)) (λ k. e (suc k)))

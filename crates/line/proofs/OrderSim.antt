@@ -10,7 +10,7 @@ use Rattle.layout.specs.Pick.{pick}
 use Rattle.layout.specs.Text.{bytes}
 use Rattle.layout.specs.Rows.{rowCount, isOpening, isClosing, parent, row0000, row9900, row9999}
 use Rattle.rules.specs.Bytes.{lines, rows, rowOf, rowOfWord, field, bars}
-use Rattle.rules.specs.Order.{last, canStand, startsFile, startsBlock, endsFile, hasRoom, underParent, isData}
+use Rattle.rules.specs.Order.{last, canStand, startsFile, startsBlock, endsFile, hasRoom, underParent, lastNumber, isData}
 use Rattle.rules.specs.Fields.{sameBytes, isText}
 use Rattle.rules.specs.Rules.{openedBy}
 use Rattle.rules.proofs.TestLaws.{split, and-left, and-false}
@@ -19,7 +19,7 @@ use Rattle.rules.proofs.AllRows.{AllRows, stood-rows}
 use Rattle.layout.proofs.RoleLaws.{data-level}
 use Rattle.layout.proofs.PeriodLaws.{hasPeriod}
 use Rattle.rules.proofs.OpenLaws.{hangs-climb, ends-last}
-use Rattle.rules.proofs.OccurrenceLaws.{stamps, occurrences, stampAt, stamped, occurred, stamps-at}
+use Rattle.rules.proofs.OccurrenceLaws.{stamps, occurrences, stampAt, occurred, stamps-at}
 use Rattle.rules.proofs.OccurrenceLaws.{occurrences-at, under-stamps, parent-other}
 use Rattle.rules.proofs.SoundLaws.{Sound}
 use Rattle.rules.proofs.StatedLaws.{Opened, opened}
@@ -100,7 +100,7 @@ module _ (rows : List ℕ) where
   entry-stamp p = split (ltb p rowCount) (λ t. rw t (stamps-at rows p ∙ rw t)) (λ t. rw t)
 
   module _ (r : ℕ) (row : r < rowCount) where
-    row-stamp : stampAt r rows ≡ stamped r rows
+    row-stamp : stampAt r rows ≡ lastNumber r rows
     unfolding stampAt
     row-stamp = rw (lt-ltb r rowCount row)
 

@@ -17,6 +17,7 @@ use Rattle.rules.specs.Periods
 use Rattle.rules.specs.Statements
 use Rattle.rules.specs.Rules
 use Rattle.rules.specs.Verdict
+use Rattle.rules.specs.Groups
 use Rattle.rules.specs.BareCases.{Bare, rowNamed, rowsNamed, placed, dueAfter, lineCases, block8Cases}
 use Rattle.rules.specs.BareCases.{numberOf, brokenAfter, dated, byteCases, newFieldCases}
 use Rattle.rules.specs.BareCases.{stated, statedBoth, valueCases, noRowCases, emptyCases, twiceCases, lastBarCases}
@@ -24,7 +25,7 @@ use Rattle.rules.specs.BareCases.{pairAfter, pairBroken, pairCases, empt
 use Rattle.rules.specs.BareCases.{manyPairsCases, pairBarCases}
 use Rattle.rules.specs.BareCases.{digitAfter, brokenDigits, digitCases, checkedBarCases}
 use Rattle.rules.specs.BareCases.{numberAndPosition, placedAfter, firstWrong, positionCases, positionByteCases}
-use Rattle.rules.specs.BareCases.{totalsAfter, totalsIn, totalsCases}
+use Rattle.rules.specs.BareCases.{totalsAfter, totalsIn, totalsCases, neighbours, neighbourCases}
 
 -- the definitions give what 01 and 02 say
 abbrev Agree : List Bare → Type 0
@@ -87,3 +88,10 @@ unfolding totalsCases totalsAfter totalsIn rowNamed rowsNamed Lists.tabulate Tex
     Rules.firstBroken Rules.faultBy Rules.fault Verdict.judged Verdict.verdictAfter Verdict.verdict Verdict.unrefused
     Verdict.standing Verdict.totals Verdict.totalsOf
 totals-cases = refl
+
+pub neighbour-cases : Agree neighbourCases
+unfolding neighbourCases neighbours Text.bytes Text.codeNumber Text.textNumber Rows.rowTable Rows.listed Rows.code Rows.level
+    Rows.blockLetters Rows.placeOf Rows.block Rows.lastAmong Rows.parent Rows.rowFrom Rows.rowOfCode Bytes.cut Bytes.lines
+    Bytes.lineAtHand Bytes.part Bytes.field Bytes.rowOfWord Bytes.rowOf Bytes.rows Bytes.empty Order.lastNumber Order.isData
+    Groups.isWhole Groups.firstRow Groups.allDeeper Groups.isGroup Groups.parentLine Groups.oneParent Groups.areNeighbours
+neighbour-cases = refl

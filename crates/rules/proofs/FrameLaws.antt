@@ -115,7 +115,7 @@ closing-9 line before e s =
     (last-closing before (block row9999) (ap isClosing q ∙ closing-9990) (ap block q ∙ block-9990))
 
 -- A block that has its closing has its opening, which was open there.
-open-among : (p : ℕ) (before : List ℕ) → isOpen p before ≡ true → among p before ≡ true
+pub open-among : (p : ℕ) (before : List ℕ) → isOpen p before ≡ true → among p before ≡ true
 unfolding among
 open-among p [] o = unfold isOpen openRows in o
 open-among p (r ∷ before) o =

@@ -22,3 +22,10 @@ pub mod FollowsLaws
 pub mod DecimalLaws
 pub mod PositionLaws
 pub mod BareCases
+pub mod GroupLaws
+pub mod AnyOrderLaws
+pub mod CarryLaws
+pub mod HeadLaws
+pub mod ExchangeLaws
+pub mod NeighbourLaws
+pub mod Exchange

@@ -9,17 +9,12 @@ use lib.ListN.{length, getD, set}
 use borrow.Author.Tests.{eq-eqb, ne-eqb, lt-ltb, le-ltb}
 use Rattle.layout.specs.Pick.{pick}
 use Rattle.layout.specs.Rows.{rowCount, level, parent}
-use Rattle.rules.specs.Order.{underParent}
+use Rattle.rules.specs.Order.{underParent, lastNumber}
 use Rattle.layout.specs.Lists.{tabulate}
 use Rattle.rules.proofs.TestLaws.{pick-le}
 use Rattle.rules.proofs.AllRows.{AllRows}
 use Rattle.layout.proofs.ParentLaws.{parent-level, parent-none}
 use Rattle.layout.proofs.TabulateLaws.{tabulate-at, tabulate-past, tabulate-set}
-
--- the number, from 1, of the last line of row k; 0 where there is none
-unfoldable pub stamped : ℕ → List ℕ → ℕ
-stamped k [] = 0
-stamped k (r ∷ rows) = pick (eqb r k) (suc (length rows)) (stamped k rows)
 
 -- how many lines of row k stood under one parent line at the last line of row k, that line included; 0 where there is none
 unfoldable pub occurred : ℕ → List ℕ → ℕ
@@ -28,13 +23,13 @@ occurred k (r ∷ rows) = pick (eqb r k) (suc (underParent k rows)) (occurred k 
 
 -- what one more line does
 module _ (k r : ℕ) (rows : List ℕ) where
-  pub stamped-here : r ≡ k → stamped k (r ∷ rows) ≡ suc (length rows)
-  unfolding stamped
-  stamped-here e = rw (eq-eqb r k e)
+  pub last-here : r ≡ k → lastNumber k (r ∷ rows) ≡ suc (length rows)
+  unfolding lastNumber
+  last-here e = rw (eq-eqb r k e)
 
-  pub stamped-past : (r ≡ k → ⊥) → stamped k (r ∷ rows) ≡ stamped k rows
-  unfolding stamped
-  stamped-past e = rw (ne-eqb r k e)
+  pub last-past : (r ≡ k → ⊥) → lastNumber k (r ∷ rows) ≡ lastNumber k rows
+  unfolding lastNumber
+  last-past e = rw (ne-eqb r k e)
 
   pub occurred-here : r ≡ k → occurred k (r ∷ rows) ≡ suc (underParent k rows)
   unfolding occurred
@@ -56,10 +51,10 @@ module _ (k r : ℕ) (rows : List ℕ) where
   unfolding underParent
   under-past o e = rw (ne-eqb r (parent k) o, ne-eqb r k e)
 
-pub stamped-le : (k : ℕ) (rows : List ℕ) → stamped k rows ≤ length rows
-unfolding stamped
-stamped-le k [] = omega arith
-stamped-le k (r ∷ rows) = let h = stamped-le k rows in pick-le (eqb r k) _ _ _ (omega arith) (omega arith)
+pub last-le : (k : ℕ) (rows : List ℕ) → lastNumber k rows ≤ length rows
+unfolding lastNumber
+last-le k [] = omega arith
+last-le k (r ∷ rows) = let h = last-le k rows in pick-le (eqb r k) _ _ _ (omega arith) (omega arith)
 
 pub under-le : (k : ℕ) (rows : List ℕ) → underParent k rows ≤ length rows
 unfolding underParent
@@ -76,10 +71,10 @@ occurred-le k (r ∷ rows) =
 
 -- the lines of row k under the parent line now: as many as at its last line, unless the parent's last line is later
 abbrev ByStamps : ℕ → List ℕ → Type 0
-ByStamps k rows = underParent k rows ≡ pick (ltb (stamped (parent k) rows) (stamped k rows)) (occurred k rows) 0
+ByStamps k rows = underParent k rows ≡ pick (ltb (lastNumber (parent k) rows) (lastNumber k rows)) (occurred k rows) 0
 
 under-stamped : (k : ℕ) → (parent k ≡ k → ⊥) → (rows : List ℕ) → ByStamps k rows
-under-stamped k other [] = unfold underParent stamped in refl
+under-stamped k other [] = unfold underParent lastNumber in refl
 under-stamped k other (r ∷ rows) = go (ℕ-discrete r (parent k)) (ℕ-discrete r k) (under-stamped k other rows)
   where
     p : ℕ
@@ -87,33 +82,33 @@ under-stamped k other (r ∷ rows) = go (ℕ-discrete r (parent k)) (ℕ-discret
 
     go : Dec (r ≡ p) → Dec (r ≡ k) → ByStamps k rows → ByStamps k (r ∷ rows)
     go (yes e) d ih =
-        let earlier = le-ltb (suc (length rows)) (stamped k rows) (omega (arith, stamped-le k rows)) in
-        rw (under-new k r rows e, stamped-here p r rows e, stamped-past k r rows (λ z. other (sym e ∙ z)), earlier)
+        let earlier = le-ltb (suc (length rows)) (lastNumber k rows) (omega (arith, last-le k rows)) in
+        rw (under-new k r rows e, last-here p r rows e, last-past k r rows (λ z. other (sym e ∙ z)), earlier)
     go (no o) (yes d) ih =
-        let later = lt-ltb (stamped p rows) (suc (length rows)) (omega (arith, stamped-le p rows)) in
-        rw (under-here k r rows o d, occurred-here k r rows d, stamped-here k r rows d, stamped-past p r rows o, later)
+        let later = lt-ltb (lastNumber p rows) (suc (length rows)) (omega (arith, last-le p rows)) in
+        rw (under-here k r rows o d, occurred-here k r rows d, last-here k r rows d, last-past p r rows o, later)
     go (no o) (no d) ih =
-        rw (under-past k r rows o d, occurred-past k r rows d, stamped-past k r rows d, stamped-past p r rows o) ih
+        rw (under-past k r rows o d, occurred-past k r rows d, last-past k r rows d, last-past p r rows o) ih
 
 -- an array has no place for "no row", the parent of a row of level 1 or 0: its stamp is taken as 0
 unfoldable pub stampAt : ℕ → List ℕ → ℕ
-stampAt p rows = pick (ltb p rowCount) (stamped p rows) 0
+stampAt p rows = pick (ltb p rowCount) (lastNumber p rows) 0
 
-stamped-none : (p : ℕ) (rows : List ℕ) → AllRows rows → rowCount ≤ p → stamped p rows ≡ 0
-stamped-none p [] all h = unfold stamped in refl
-stamped-none p (r ∷ rows) all h =
-    stamped-past p r rows (λ z. let l = all .0 in omega arith) ∙ stamped-none p rows (all .1) h
+last-none : (p : ℕ) (rows : List ℕ) → AllRows rows → rowCount ≤ p → lastNumber p rows ≡ 0
+last-none p [] all h = unfold lastNumber in refl
+last-none p (r ∷ rows) all h =
+    last-past p r rows (λ z. let l = all .0 in omega arith) ∙ last-none p rows (all .1) h
 
-stampAt-is : (p : ℕ) (rows : List ℕ) → AllRows rows → stampAt p rows ≡ stamped p rows
+stampAt-is : (p : ℕ) (rows : List ℕ) → AllRows rows → stampAt p rows ≡ lastNumber p rows
 unfolding stampAt
 stampAt-is p rows all = go (decLt p rowCount)
   where
-    go : Dec (p < rowCount) → pick (ltb p rowCount) (stamped p rows) 0 ≡ stamped p rows
+    go : Dec (p < rowCount) → pick (ltb p rowCount) (lastNumber p rows) 0 ≡ lastNumber p rows
     go (yes l) = rw (lt-ltb p rowCount l)
-    go (no l) = rw (le-ltb p rowCount (omega arith)) (sym (stamped-none p rows all (omega arith)))
+    go (no l) = rw (le-ltb p rowCount (omega arith)) (sym (last-none p rows all (omega arith)))
 
 pub under-stamps : (k : ℕ) → (parent k ≡ k → ⊥) → (rows : List ℕ) → AllRows rows
-    → underParent k rows ≡ pick (ltb (stampAt (parent k) rows) (stamped k rows)) (occurred k rows) 0
+    → underParent k rows ≡ pick (ltb (stampAt (parent k) rows) (lastNumber k rows)) (occurred k rows) 0
 under-stamps k other rows all = rw (stampAt-is (parent k) rows all) (under-stamped k other rows)
 
 pub parent-other : (k : ℕ) → k < rowCount → parent k ≡ k → ⊥
@@ -125,7 +120,7 @@ parent-other k h e = go (decLt (level k) 2)
 
 -- the two arrays, one entry for each row, and what one more line does to them
 unfoldable pub stamps : List ℕ → List ℕ
-stamps rows = tabulate rowCount (λ k. stamped k rows)
+stamps rows = tabulate rowCount (λ k. lastNumber k rows)
 
 unfoldable pub occurrences : List ℕ → List ℕ
 occurrences rows = tabulate rowCount (λ k. occurred k rows)
@@ -134,9 +129,9 @@ pub stamps-at : (rows : List ℕ) (p : ℕ) → getD (stamps rows) p 0 ≡ stamp
 unfolding stamps stampAt
 stamps-at rows p = go (decLt p rowCount)
   where
-    go : Dec (p < rowCount) → getD (tabulate rowCount (λ k. stamped k rows)) p 0 ≡ pick (ltb p rowCount) (stamped p rows) 0
-    go (yes l) = rw (lt-ltb p rowCount l) (tabulate-at rowCount (λ k. stamped k rows) p 0 l)
-    go (no l) = rw (le-ltb p rowCount (omega arith)) (tabulate-past rowCount (λ k. stamped k rows) p 0 (omega arith))
+    go : Dec (p < rowCount) → getD (tabulate rowCount (λ k. lastNumber k rows)) p 0 ≡ pick (ltb p rowCount) (lastNumber p rows) 0
+    go (yes l) = rw (lt-ltb p rowCount l) (tabulate-at rowCount (λ k. lastNumber k rows) p 0 l)
+    go (no l) = rw (le-ltb p rowCount (omega arith)) (tabulate-past rowCount (λ k. lastNumber k rows) p 0 (omega arith))
 
 pub occurrences-at : (rows : List ℕ) (k : ℕ) → k < rowCount → getD (occurrences rows) k 0 ≡ occurred k rows
 unfolding occurrences
@@ -146,8 +141,8 @@ module _ (rows : List ℕ) (r : ℕ) (h : r < rowCount) where
   pub stamps-line : stamps (r ∷ rows) ≡ set (stamps rows) r (suc (length rows))
   unfolding stamps
   stamps-line =
-      sym (tabulate-set rowCount (λ k. stamped k rows) (λ k. stamped k (r ∷ rows)) r (suc (length rows)) h
-      (stamped-here r r rows refl) (λ k d. stamped-past k r rows d))
+      sym (tabulate-set rowCount (λ k. lastNumber k rows) (λ k. lastNumber k (r ∷ rows)) r (suc (length rows)) h
+      (last-here r r rows refl) (λ k d. last-past k r rows d))
 
   pub occurrences-line : occurrences (r ∷ rows) ≡ set (occurrences rows) r (suc (underParent r rows))
   unfolding occurrences

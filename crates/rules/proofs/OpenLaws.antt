@@ -80,7 +80,7 @@ climb-block n h =
     go x d (no a) ih = ap block (climb-stop n x (omega arith))
 
 -- p stays open at a line of level n if its own level is below n
-among-shallower : (p n : ℕ) (xs : List ℕ) → among p (shallower n xs) ≡ (ltb (level p) n && among p xs)
+pub among-shallower : (p n : ℕ) (xs : List ℕ) → among p (shallower n xs) ≡ (ltb (level p) n && among p xs)
 unfolding among shallower
 among-shallower p n [] = sym (and-false (ltb (level p) n))
 among-shallower p n (x ∷ xs) = go (decLt (level x) n) (ℕ-discrete x p) (among-shallower p n xs)

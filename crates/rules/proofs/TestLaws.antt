@@ -48,6 +48,11 @@ pub or-right : (a b : Bool) → b ≡ true → (a || b) ≡ true
 or-right true b e = refl
 or-right false b e = e
 
+-- and fails by both
+pub or-fails : (a b : Bool) → (a || b) ≡ false → (a ≡ false) × (b ≡ false)
+or-fails true b e = both refl e
+or-fails false b e = (refl, e)
+
 pub pick-of : {A B : Type 0} (f : A → B) (t : Bool) (a b : A) → f (pick t a b) ≡ pick t (f a) (f b)
 pick-of f true a b = refl
 pick-of f false a b = refl

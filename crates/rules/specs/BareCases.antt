@@ -1,4 +1,4 @@
--- 01, "Both sides of each rule", and 02, requests h, e, g, f and b: starred cases and others, each for one rule, without the bytes around
+-- 01, "Both sides of each rule", and 02, requests h, e, g, f, b and m: starred cases and others, each for one rule, without the bytes around
 -- it. The starred cases are whole files (the crate `cases`); these are short enough that a check which refuses one prints the two numbers
 -- that differ.
 use mathlib.Core.List.{List, [], _∷_, _++_, map, reverse}
@@ -18,6 +18,7 @@ use Rattle.rules.specs.Periods.{seenBefore, crowded}
 use Rattle.rules.specs.Statements.{allTrue}
 use Rattle.rules.specs.Rules.{Fault, clear, breaks, rules, firstBroken}
 use Rattle.rules.specs.Verdict.{totalsOf}
+use Rattle.rules.specs.Groups.{areNeighbours}
 
 -- the number that the documents say, and the one that the definitions give
 pub record Bare : Type 0 where
@@ -351,4 +352,29 @@ totalsCases =
     bare 20000001 (totalsAfter ("0000" ∷ "0001" ∷ "9001" ∷ [])) ∷
     -- a line that its first byte refuses, by 1, raises no total
     bare 0 (totalsIn "x|0001|1|\r\n") ∷
+    []
+
+-- 02, request m: what stands before, two groups and what stands after; 1 where the groups are neighbours, 0 where they are not. Only the
+-- codes of the lines are asked.
+unfoldable pub neighbours : String → String → String → String → ℕ
+neighbours before first second after = pick (areNeighbours (bytes before) (bytes first) (bytes second) (bytes after)) 1 0
+
+unfoldable pub neighbourCases : List Bare
+neighbourCases =
+    -- 0150 and 0200, each with its dependant; and two 0150, of which one has none
+    bare 1 (neighbours "|0000|\r\n|0001|\r\n" "|0150|\r\n|0175|\r\n" "|0200|\r\n|0205|\r\n" "|0990|\r\n") ∷
+    bare 1 (neighbours "|0001|\r\n" "|0150|\r\n" "|0150|\r\n|0175|\r\n" "|0150|\r\n") ∷
+    -- level 3, under one C020
+    bare 1 (neighbours "|C001|\r\n|C020|\r\n" "|C300|\r\n|C310|\r\n" "|C300|\r\n" "|C020|\r\n") ∷
+    -- of different parents: 0175 of 0150, and 0200 of the opening
+    bare 0 (neighbours "|0001|\r\n|0150|\r\n" "|0175|\r\n" "|0200|\r\n" "|0990|\r\n") ∷
+    -- without all its dependants: the second group, and the first
+    bare 0 (neighbours "|0001|\r\n" "|0150|\r\n" "|0200|\r\n" "|0205|\r\n|0990|\r\n") ∷
+    bare 0 (neighbours "|0001|\r\n" "|0150|\r\n" "|0175|\r\n" "|0990|\r\n") ∷
+    -- two lines with no parent, and of level 1: a block's closing and the next opening
+    bare 0 (neighbours "|C001|\r\n" "|C990|\r\n" "|E001|\r\n" "|E990|\r\n") ∷
+    -- two lines are no group, no line is none, and a part of a line is none
+    bare 0 (neighbours "|0001|\r\n" "|0150|\r\n|0150|\r\n" "|0200|\r\n" "|0990|\r\n") ∷
+    bare 0 (neighbours "|0001|\r\n" "" "|0200|\r\n" "|0990|\r\n") ∷
+    bare 0 (neighbours "|0001|\r\n" "|0150|\r\n" "|0200|\r\n|0205|" "\r\n|0990|\r\n") ∷
     []

@@ -11,4 +11,5 @@ pub mod Verdict
 pub mod Totals
 pub mod Follows
 pub mod ByLines
+pub mod Groups
 pub mod BareCases

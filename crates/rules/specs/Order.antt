@@ -4,6 +4,7 @@ use mathlib.Core.Bool.{Bool, false, _&&_, _||_}
 use mathlib.Core.List.{List, [], _∷_}
 use Prim.Native.Nat.{ℕ, suc}
 use lib.Dec.{eqb, leb, ltb}
+use lib.ListN.{length}
 use Rattle.layout.specs.Pick.{pick}
 use Rattle.layout.specs.Rows.{none, anyNumber, level, limit, block, isOpening, isClosing, parent, opening}
 use Rattle.layout.specs.Rows.{row0000, row9990, row9999}
@@ -67,6 +68,11 @@ underParent r [] = 0
 underParent r (x ∷ before) =
     let rest = underParent r before in
     pick (eqb x (parent r)) 0 (pick (eqb x r) (suc rest) rest)
+
+-- the number, from 1, of the last line of row r; 0 where there is none
+unfoldable pub lastNumber : ℕ → List ℕ → ℕ
+lastNumber r [] = 0
+lastNumber r (x ∷ before) = let rest = lastNumber r before in pick (eqb x r) (suc (length before)) rest
 
 -- "1 means at most one, 990 at most 990, N any number": one more line of row r is not too many
 unfoldable pub hasRoom : ℕ → List ℕ → Bool

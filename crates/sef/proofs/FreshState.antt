@@ -7,11 +7,11 @@ use Rattle.layout.specs.Sheets.{sheets}
 use Rattle.layout.specs.Kinds.{kindOf, sheetOf, fitted, kindsOf, kind}
 use Rattle.layout.specs.Packed.{kindNumber}
 use Rattle.rules.specs.Bytes.{cut, lines, lineAtHand, part, field, rowOfWord, rowOf, rows, rowAtHand, bars, word}
-use Rattle.rules.specs.Order.{last}
+use Rattle.rules.specs.Order.{last, lastNumber}
 use Rattle.rules.specs.Counts.{linesOfRow, linesOfBlock, countsOfRows, totalsOfRows}
 use Rattle.layout.specs.Lists.{tabulate}
 use Rattle.rules.proofs.BlockLaws.{since}
-use Rattle.rules.proofs.OccurrenceLaws.{stamps, occurrences, stamped, occurred}
+use Rattle.rules.proofs.OccurrenceLaws.{stamps, occurrences, occurred}
 use Rattle.rules.proofs.CleanLaws.{clean-start}
 use Rattle.field.specs.Streaming.{fieldAfter}
 use Rattle.piece.specs.Piece.{openOf}
@@ -24,7 +24,7 @@ use Rattle.sef.proofs.StateAfter.{openAt, checkedAfter, after-clean}
 fresh-open : fresh ≡ openAt [] .state
 unfolding fresh openOf says lastSays lines rows last since cut lineAtHand bars word rowAtHand rowOf rowOfWord
     field part fields listed rowTable kind kindsOf isOpening isClosing code bytes codeNumber textNumber
-    fitted kindOf sheetOf sheets kindNumber fieldAfter countsOfRows tabulate linesOfRow stamps stamped occurrences occurred
+    fitted kindOf sheetOf sheets kindNumber fieldAfter countsOfRows tabulate linesOfRow stamps lastNumber occurrences occurred
     totalsOfRows linesOfBlock statedOfRow pairsOf
 fresh-open = refl
 
