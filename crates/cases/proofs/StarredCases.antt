@@ -1,5 +1,6 @@
 -- The starred cases of 01, as one statement over one table: the definitions give each file the answer that 01 gives it. Beside it
--- the files whose totals are given (02, request g): both compute with the same definitions.
+-- the files whose totals are given (02, request g), and those whose groups are exchanged (request m): all compute with the same
+-- definitions.
 use mathlib.Core.Path.{_≡_, refl}
 use mathlib.Core.List.{map}
 use Rattle.layout.specs.Lists
@@ -20,10 +21,12 @@ use Rattle.rules.specs.Rules
 use Rattle.rules.specs.Verdict
 use Rattle.rules.specs.Verdict.{finalOf, totalsOf}
 use Rattle.cases.specs.Cases.{cases, totalsOfFiles, fileOf}
+use Rattle.cases.specs.Exchanges.{twoGroups, twoPeriods, withoutDependant, acrossParents, ofLevel1, exchanges}
 
 computed : (map (λ c. finalOf (c .file)) cases ≡ map (λ c. c .answer) cases)
     × (map (λ c. totalsOf (c .file)) totalsOfFiles ≡ map (λ c. c .totals) totalsOfFiles)
-unfolding cases totalsOfFiles fileOf
+    × (map (λ c. finalOf (c .file)) exchanges ≡ map (λ c. c .answer) exchanges)
+unfolding cases totalsOfFiles exchanges twoGroups twoPeriods withoutDependant acrossParents ofLevel1 fileOf
     Lists.tabulate Text.bytes Text.codeNumber Text.textNumber
     Rows.rowTable Rows.listed Rows.code Rows.fields Rows.level Rows.occurrence Rows.limit Rows.blockLetters Rows.placeOf
     Rows.block Rows.isOpening Rows.isClosing Rows.lastAmong Rows.parent Rows.opening Rows.rowFrom Rows.rowOfCode
@@ -46,10 +49,13 @@ unfolding cases totalsOfFiles fileOf
     Rules.rules Rules.firstBroken Rules.faultBy Rules.fault
     Verdict.judged Verdict.verdictAfter Verdict.verdict Verdict.finishAfter Verdict.finishVerdict Verdict.finalOf
     Verdict.unrefused Verdict.standing Verdict.totals Verdict.totalsOf
-computed = (refl, refl)
+computed = (refl, refl, refl)
 
 pub starred-cases : map (λ c. finalOf (c .file)) cases ≡ map (λ c. c .answer) cases
 starred-cases = computed .0
 
 pub totals-of-files : map (λ c. totalsOf (c .file)) totalsOfFiles ≡ map (λ c. c .totals) totalsOfFiles
 totals-of-files = computed .1
+
+pub exchange-files : map (λ c. finalOf (c .file)) exchanges ≡ map (λ c. c .answer) exchanges
+exchange-files = computed .2

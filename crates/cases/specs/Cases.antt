@@ -19,7 +19,7 @@ abbrev case : List String → Verdict → Case
 case file answer = record { file = fileOf file; answer = answer }
 
 -- "Base" is the file of "The checking program": its first line, and the others
-abbrev first : String
+abbrev pub first : String
 first = "|0000|LFPD|01012012|31012012|Loja Um|||||||||||Brasil|||||\r\n"
 
 abbrev closing0 : List String
