@@ -3,8 +3,9 @@ use mathlib.Core.Path.{_≡_, _∙_, refl, sym, ap, subst}
 use mathlib.Core.Bool.{Bool, true, false, _&&_}
 use mathlib.Core.List.{List, [], _++_, reverse}
 use mathlib.Core.Logic.{inl, inr, ⊎-elim}
-use Prim.Native.Nat.{ℕ, _+_, _≤_}
+use Prim.Native.Nat.{ℕ, _+_, _≤_, _<_}
 use native.Mathlib.Omega.{arith}
+use native.Mathlib.Decide.{decLt}
 use lib.Dec.{eqb, leb}
 use lib.ListN.{length, take, drop}
 use lib.Seq.{take-at}
@@ -12,11 +13,13 @@ use borrow.Author.Tests.{ne-eqb, eqb-true, eqb-false, leb-true, le-ltb, lt-ltb}
 use Rattle.layout.specs.Rows.{rowCount, block}
 use Rattle.rules.specs.Bytes.{rowOf, rows}
 use Rattle.rules.specs.Totals.{blockCount}
+use Rattle.rules.specs.Groups.{exchanged}
 use Rattle.rules.specs.Verdict.{Verdict, refused, countsOf, counts, standing}
 use Rattle.rules.proofs.TestLaws.{both, and-left, and-right}
 use Rattle.rules.proofs.CountLaws.{counts-length}
 use Rattle.rules.proofs.FollowsLaws.{none-broken-open, follows-accepted, accepted-follows, first-refused, short-refused}
 use Rattle.rules.proofs.FollowsLaws.{refused-names}
+use Rattle.rules.proofs.Exchange.{groups-exchange}
 use Rattle.rules.proofs.TotalLaws.{accepted-last, accepted-sum, accepted-total, accepted-closing, accepted-first}
 use Rattle.rules.proofs.TotalLaws.{accepted-there, accepted-has-0-and-9, accepted-statement, accepted-once, accepted-pairs}
 use Rattle.line.specs.Machine.{positionOf}
@@ -24,7 +27,7 @@ use Rattle.state.specs.Answers.{numbers, numbersOf, said, finallySaid, reportSa
 use Rattle.piece.specs.Piece.{openOf, stoppedOf, runOf, keptOf}
 use Rattle.sef.specs.Calls.{unchanged, checkOf, finalAnswerOf, finishOf, reportOf}
 use Rattle.state.specs.Ranges.{positionRanged, rangedOf}
-use Rattle.sef.specs.Promises.{Reached, start, more, Finishes}
+use Rattle.sef.specs.Promises.{Reached, start, more, Given, Finishes, Reports}
 use Rattle.sef.specs.Demands as D
 use Rattle.sef.specs.Demands.{Answered, isAccepted, isRefused, InTable, isOpen, byRule, ofCall, ReportInTable, refuses}
 use Rattle.sef.specs.Demands.{Positioned, Stays}
@@ -421,6 +424,35 @@ report-at-any-time file s before r after g l c =
     let p : r ≡ Report.Written (s .hot .lines) (s .hot .bytes) = c .exact ∙ unfold reportOf in rw (e, le-ltb _ _ l) in
     let z : reportSaid r .refusal ≡ 0 = ap (λ x. reportSaid x .refusal) p ∙ unfold reportSaid in refl in
     (z, counts-all file, c .counted file g z)
+
+-- 02, request m, of the calls.
+-- A report into a buffer that is too small writes nothing.
+unwritten : (file : List ℕ) (s : State) → Given file s → (buffer : List ℕ) (r : ReportAnswer) (after : List ℕ)
+    → length buffer < rowCount → Reports s buffer r after → after ≡ buffer
+unwritten file s g buffer r after small p =
+    let e = then-late-or-no-room s (given-ranged file s g) .2 buffer r after small p in
+    refused-report-writes-nothing s buffer r after p (λ z. unfold reportSaid in omega (arith, sym (ap (λ x. reportSaid x .refusal) e) ∙ z))
+
+-- files with the same counts, in a report
+same-report : (file other : List ℕ) (s t : State) → Given file s → Given other t → countsOf other ≡ countsOf file
+    → (buffer : List ℕ) (a b : ReportAnswer) (x y : List ℕ) → Reports s buffer a x → Reports t buffer b y → y ≡ x
+same-report file other s t h g e buffer a b x y p q = go (decLt (length buffer) rowCount)
+  where
+    go : Dec (length buffer < rowCount) → y ≡ x
+    go (yes small) = unwritten other t g buffer b y small q ∙ sym (unwritten file s h buffer a x small p)
+    go (no small) =
+        report-at-any-time other t buffer b y g (omega arith) q .2 ∙ ap (λ c. c ++ drop rowCount buffer) e
+        ∙ sym (report-at-any-time file s buffer a x h (omega arith) p .2)
+
+pub groups-may-be-exchanged : D.GroupsMayBeExchanged
+groups-may-be-exchanged before first second after near s r h c t q g d l n e =
+    let file = before ++ first ++ second ++ after in
+    let other = exchanged before first second after in
+    let same = groups-exchange before first second after near l n (sym (c .joined file h) ∙ e) in (
+      d .joined other g ∙ same .0,
+      same-report file other (r .state) (q .state) (inr (c .closed file h)) (inr (d .closed other g)) (same .1),
+      d .totalled other g ∙ same .2 ∙ sym (c .totalled file h),
+    )
 
 pub one-result : D.OneResult
 one-result = (

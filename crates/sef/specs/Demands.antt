@@ -16,6 +16,7 @@ use Rattle.rules.specs.Periods.{mostPairs, PairsOnce}
 use Rattle.rules.specs.Statements.{isTrue}
 use Rattle.rules.specs.Verdict.{Verdict, stillOpen, refused, accepted, verdictOf, finalOf, countsOf}
 use Rattle.rules.specs.Follows.{NoneBroken, Follows, FirstBroken, CutShort}
+use Rattle.rules.specs.Groups.{areNeighbours, exchanged}
 use Rattle.rules.specs.Totals.{closingsState, statedBy, linesOf, lastLine, rowsOf, blockCount, IsAmong, IsThere}
 use Rattle.line.specs.Machine.{mostBars}
 use Rattle.state.specs.Answers.{numbers, numbersOf, said, finallySaid, reportSaid}
@@ -142,6 +143,19 @@ abbrev pub OncePerPeriod : Type 0
 OncePerPeriod =
     OfAccepted (λ file l s. PairsOnce (linesOf file)
     × ((r : ℕ) → 1 ≤ laterDate r → linesOfRow r (rows (reverse file)) ≤ mostPairs))
+
+-- 02, request m: "if a file is accepted and two neighbouring lines of level 2 or deeper with one parent change places, each with all
+-- its dependants, the new file is accepted with the same counts for every code".
+-- In whatever pieces either file came: the answer has the same lines and bytes, a report writes the same, and the totals are the same.
+abbrev pub GroupsMayBeExchanged : Type 0
+GroupsMayBeExchanged =
+    (before first second after : List ℕ) → areNeighbours before first second after ≡ true
+    → (s : State) (r : Finished) → Reached (before ++ first ++ second ++ after) s → Finishes s r
+    → (t : State) (q : Finished) → Reached (exchanged before first second after) t → Finishes t q
+    → (l n : ℕ) → finallySaid (r .answer) ≡ accepted l n
+    → (finallySaid (q .answer) ≡ accepted l n)
+    × ((buffer : List ℕ) (a b : ReportAnswer) (x y : List ℕ) → Reports (r .state) buffer a x → Reports (q .state) buffer b y → y ≡ x)
+    × (q .state .tally .totals ≡ r .state .tally .totals)
 
 -- Document 01, "The order of lines", of an accepted file.
 
