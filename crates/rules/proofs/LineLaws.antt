@@ -107,19 +107,19 @@ module _ (seen : List ℕ) where
   unfolding rules rulesWhere asksBefore firstBroken breaks4 breaks5 breaks6 breaks13 breaks20 breaks21 breaks23
   elsewhere-clear b c f = rw (c, f)
 
-  code-clear : bars seen ≡ 1 → Known (rowToBe seen) (rows seen) → againstOpening (rowToBe seen) (lines seen) ≡ false
+  code-bar-clear : bars seen ≡ 1 → Known (rowToBe seen) (rows seen) → againstOpening (rowToBe seen) (lines seen) ≡ false
       → firstBroken placeRules seen bar ≡ clear
   unfolding rules rulesWhere asksBefore firstBroken inField isCodeBar isFieldBar isPairBar formAtHand formOf
       breaks4 breaks5 breaks6 breaks13 breaks20 breaks21 breaks23
-  code-clear z k o = simp (z, k .1, k .2, o, row-early seen (omega arith), fields-none, none-kind, later-none)
+  code-bar-clear z k o = simp (z, k .1, k .2, o, row-early seen (omega arith), fields-none, none-kind, later-none)
 
-  field-clear : 2 ≤ bars seen
+  field-bar-clear : 2 ≤ bars seen
       → (formOf (kind (rowAtHand seen) (bars seen)) .isCount ≡ true → states (due (rowAtHand seen) (rows seen)) (word seen) ≡ true)
       → (bars seen ≡ laterDate (rowAtHand seen) → NewPair (withBar seen) (lines seen))
       → (rowAtHand seen ≡ row9999 → bars seen ≡ 2 → allTrue (row9999 ∷ rows seen) (lines seen) ≡ true)
       → firstBroken placeRules seen bar ≡ clear
   unfolding rules rulesWhere asksBefore firstBroken isCodeBar breaks4 breaks5 breaks6
-  field-clear h counts pair told = rw (ne-eqb (bars seen) 1 (λ z. omega arith), thirteen, twenty, twenty-one, twenty-three)
+  field-bar-clear h counts pair told = rw (ne-eqb (bars seen) 1 (λ z. omega arith), thirteen, twenty, twenty-one, twenty-three)
     where
       thirteen : breaks13 seen bar ≡ false
       thirteen =
@@ -265,9 +265,9 @@ module _ (seen : List ℕ) (g : Good (bar ∷ seen)) where
   bar-placed (starts z) = elsewhere-clear seen bar (rw z) (rw z)
   bar-placed (codes z) =
       let two : 2 ≤ bars (bar ∷ seen) = omega (arith, bars-bar seen) in
-      code-clear seen z (rw (row-code seen z, rows-bar seen) at (g .known two)) (rw (row-code seen z, lines-bar seen) at (g .opened two))
+      code-bar-clear seen z (rw (row-code seen z, rows-bar seen) at (g .known two)) (rw (row-code seen z, lines-bar seen) at (g .opened two))
   bar-placed (fills h i) =
-      field-clear seen h
+      field-bar-clear seen h
       (λ k. rw (row-later seen h, rows-bar seen, field-bar seen (bars seen), eq-eqb (bars seen) (bars seen) refl) at
       (g .counting (bars seen) h (omega (arith, bars-bar seen)) (rw (row-later seen h) k)))
       (λ is. rw (lines-bar seen, hand-on seen bar refl) at
