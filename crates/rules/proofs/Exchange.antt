@@ -12,7 +12,7 @@ use Rattle.rules.specs.Verdict.{accepted, finalOf, countsOf, totalsOf}
 use Rattle.rules.specs.Totals.{linesOf}
 use Rattle.rules.specs.ByLines.{ByLines}
 use Rattle.rules.specs.Groups.{exchanged, GroupsExchange, ExchangedBack}
-use Rattle.rules.proofs.AnyOrderLaws.{parts-change, length-order, counts-order, totals-order}
+use Rattle.rules.proofs.InAnyOrder.{parts-change, length-order, counts-order, totals-order}
 use Rattle.rules.proofs.FileLaws.{hand-join, lines-join, whole-hand, hand-whole, accepted-by-lines}
 use Rattle.rules.proofs.FileLaws.{counts-of-lines, totals-of-lines}
 use Rattle.rules.proofs.NeighbourLaws.{Neighbours, neighbours, neighbours-good, neighbours-back, neighbours-ended}

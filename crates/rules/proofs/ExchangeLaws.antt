@@ -19,7 +19,7 @@ use Rattle.rules.specs.Groups.{firstRow}
 use Rattle.rules.proofs.TestLaws.{both}
 use Rattle.rules.proofs.CountKinds.{data-count}
 use Rattle.rules.proofs.GroupLaws.{Deep, Agree, stand-after}
-use Rattle.rules.proofs.AnyOrderLaws.{parts-change, due-lines, seen-order, crowded-order, true-order}
+use Rattle.rules.proofs.InAnyOrder.{parts-change, due-lines, seen-order, crowded-order, true-order}
 use Rattle.rules.proofs.CarryLaws.{SameTop, data-top, Asked, stands-alike, Moves, AllMove, carry}
 use Rattle.rules.proofs.HeadLaws.{Headed, group-agree, group-under, group-last, second-stands, first-stands}
 

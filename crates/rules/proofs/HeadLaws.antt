@@ -27,7 +27,7 @@ use Rattle.rules.proofs.CountLaws.{lines-past}
 use Rattle.rules.proofs.StandLaws.{data-closing}
 use Rattle.rules.proofs.CountKinds.{data-count}
 use Rattle.rules.proofs.GroupLaws.{Deep, Agree, deep-agree, stand-agree, under-deep}
-use Rattle.rules.proofs.AnyOrderLaws.{one-more}
+use Rattle.rules.proofs.InAnyOrder.{one-more}
 use Rattle.rules.proofs.CarryLaws.{data-top}
 
 -- a head and its dependants: it is a data line

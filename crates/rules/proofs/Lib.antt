@@ -23,7 +23,7 @@ pub mod DecimalLaws
 pub mod PositionLaws
 pub mod BareCases
 pub mod GroupLaws
-pub mod AnyOrderLaws
+pub mod InAnyOrder
 pub mod CarryLaws
 pub mod HeadLaws
 pub mod ExchangeLaws

@@ -23,7 +23,7 @@ use Rattle.rules.specs.Groups.{isWhole, firstRow, allDeeper, isGroup, pa
 use Rattle.rules.proofs.TestLaws.{both, and-left, and-right}
 use Rattle.rules.proofs.OccurrenceLaws.{last-here, last-past, last-le}
 use Rattle.rules.proofs.GroupLaws.{Deep}
-use Rattle.rules.proofs.AnyOrderLaws.{gathered}
+use Rattle.rules.proofs.InAnyOrder.{gathered}
 use Rattle.rules.proofs.CarryLaws.{parent-open, data-top}
 use Rattle.rules.proofs.FrameLaws.{open-among}
 use Rattle.rules.proofs.FileLaws.{lines-join}
