@@ -18,6 +18,15 @@ cut-by : (s b : ℕ) (bs : List ℕ) (t : Bool) → eqb b s ≡ t → cut s (b �
 unfolding cut
 cut-by s b bs t e = ap (λ u. cutBy u b (cut s bs)) e
 
+-- no byte
+pub no-lines : lines [] ≡ []
+unfolding lines cut
+no-lines = refl
+
+pub no-hand : lineAtHand [] ≡ []
+unfolding lineAtHand cut
+no-hand = refl
+
 -- a byte other than LF
 module _ (seen : List ℕ) (b : ℕ) (plain : eqb b LF ≡ false) where
   pub lines-on : lines (b ∷ seen) ≡ lines seen

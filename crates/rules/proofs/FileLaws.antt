@@ -7,21 +7,17 @@ use native.Mathlib.Omega.{arith}
 use lib.Dec.{eqb}
 use lib.ListN.{length, length-append, length-reverse}
 use borrow.Author.Tests.{eqb-true}
-use Rattle.rules.specs.Bytes.{LF, cut, lines, lineAtHand, rowOf, rows}
+use Rattle.rules.specs.Bytes.{LF, lines, lineAtHand, rowOf, rows}
 use Rattle.rules.specs.Counts.{countsOfRows, totalsOfRows}
 use Rattle.rules.specs.Rules.{isLastLine, complete}
 use Rattle.rules.specs.Verdict.{stillOpen, accepted, standing, counts, totals, verdictOf, finalOf, countsOf, totalsOf}
 use Rattle.rules.specs.Totals.{linesOf}
 use Rattle.rules.specs.ByLines.{joinedLines, ByLines, OpenByLines, AcceptedByLines}
 use Rattle.rules.proofs.TestLaws.{split, both}
-use Rattle.rules.proofs.ByteLaws.{lines-on, hand-on, lines-lf, hand-lf}
+use Rattle.rules.proofs.ByteLaws.{no-lines, no-hand, lines-on, hand-on, lines-lf, hand-lf}
 use Rattle.rules.proofs.CleanLaws.{Clean, clean-short, clean-clear, clear-incomplete, open-clean, finish-clean}
 use Rattle.rules.proofs.CleanLaws.{standing-clean, accepted-clean, accepted-numbers}
-use Rattle.rules.proofs.LineLaws.{no-hand, clean-lines, lines-clean}
-
-no-lines : lines [] ≡ []
-unfolding lines cut
-no-lines = refl
+use Rattle.rules.proofs.LineLaws.{clean-lines, lines-clean}
 
 -- Two parts of a history, the later one first: where the earlier ends with a line, the lines are those of both.
 module _ (ys : List ℕ) (whole : lineAtHand ys ≡ []) where

@@ -14,6 +14,7 @@ pub mod FaultLaws
 pub mod CleanLaws
 pub mod PeriodLaws
 pub mod SoundLaws
+pub mod RuleSortLaws
 pub mod LineLaws
 pub mod FileLaws
 pub mod StatedLaws

@@ -1,6 +1,6 @@
 -- The verdict by lines: a history is clean exactly if its lines are good and the line at hand is on its way to that.
 use mathlib.Core.Path.{_≡_, _∙_, refl, sym, ap}
-use mathlib.Core.Bool.{Bool, true, false, not, _&&_}
+use mathlib.Core.Bool.{true, false, not}
 use mathlib.Core.List.{List, [], _∷_}
 use mathlib.Core.Logic.{_⊎_, inl, inr, ⊎-elim}
 use Prim.Native.Nat.{ℕ, _≤_, _<_}
@@ -12,142 +12,25 @@ use borrow.Author.Tests.{eq-eqb, ne-eqb, lt-leb, eqb-true}
 use Rattle.layout.specs.Rows.{rowCount, fields, row9999}
 use Rattle.layout.specs.Kinds.{kind}
 use Rattle.layout.specs.Periods.{laterDate}
-use Rattle.rules.specs.Bytes.{bar, LF, cut, lines, lineAtHand, field, rowOf, rows, rowAtHand, bars, word}
+use Rattle.rules.specs.Bytes.{bar, LF, cut, lines, lineAtHand, field, rows, rowAtHand, bars}
 use Rattle.rules.specs.Counts.{due}
 use Rattle.rules.specs.Fields.{formOf, states}
-use Rattle.rules.specs.Periods.{NewPair, seenBefore, crowded}
+use Rattle.rules.specs.Periods.{NewPair}
 use Rattle.rules.specs.Statements.{allTrue}
-use Rattle.rules.specs.Rules.{Rule, clear, rules, firstBroken, faultBy, fault, inField, pastFields, isCodeBar, isFieldBar}
-use Rattle.rules.specs.Rules.{rowToBe, formAtHand, isPairBar, withBar, controlByte, wrongByte, isLastLine, complete, full, byteLimit}
-use Rattle.rules.specs.Rules.{breaks1, breaks2, breaks3, breaks4, breaks5, breaks6, breaks7, breaks8, breaks9, breaks10}
-use Rattle.rules.specs.Rules.{breaks11, breaks12, breaks13, breaks24, breaks20, breaks21, breaks23}
-use Rattle.rules.specs.ByLines.{asksBefore, rulesWhere, lineRules, Formed, againstOpening, Stands, GoodLines}
+use Rattle.rules.specs.Rules.{clear, rules, firstBroken, faultBy, fault, inField, isCodeBar, isFieldBar}
+use Rattle.rules.specs.Rules.{isLastLine, complete, full, byteLimit}
+use Rattle.rules.specs.ByLines.{asksBefore, lineRules, Formed, againstOpening, Stands, GoodLines}
 use Rattle.layout.proofs.KindLaws.{kind-past}
-use Rattle.layout.proofs.RoleLaws.{fields-none, none-kind, fields-9999}
-use Rattle.layout.proofs.PeriodLaws.{later-none}
-use Rattle.rules.proofs.TestLaws.{split, both, and-left, and-right, and-false, pick-clear, under-fails}
+use Rattle.layout.proofs.RoleLaws.{fields-9999}
+use Rattle.rules.proofs.TestLaws.{split, both, and-false}
 use Rattle.rules.proofs.ByteLaws.{lines-on, hand-on, rows-on, bars-on, field-on, row-on, lines-bar, rows-bar, bars-bar, field-bar}
-use Rattle.rules.proofs.ByteLaws.{row-code, row-later, row-early, lines-lf, hand-lf}
+use Rattle.rules.proofs.ByteLaws.{row-code, row-later, no-lines, no-hand, lines-lf, hand-lf}
 use Rattle.rules.proofs.FaultLaws.{Place, starts, codes, fills, ends, place, past-late, past-fields, past-in}
 use Rattle.rules.proofs.CleanLaws.{Clean, clean-start, clean-next, clean-before, clean-clear, clear-rules, clear-incomplete}
 use Rattle.rules.proofs.PeriodLaws.{new-same}
+use Rattle.rules.proofs.RuleSortLaws.{some-clear, all-clear, alone, placeRules, elsewhere-clear, code-bar-clear}
+use Rattle.rules.proofs.RuleSortLaws.{field-bar-clear}
 use Rattle.rules.proofs.SoundLaws.{Known, sound, lf-past, later-in}
-
--- Rules of a sort: where all are clear those of the sort are, and all are where those of the sort and the others are.
-module _ (test : ℕ → Bool) (seen : List ℕ) (b : ℕ) where
-  first-clear : (r : Rule) (rs : List Rule) → firstBroken (r ∷ rs) seen b ≡ clear
-      → (r .broken seen b ≡ false) × (firstBroken rs seen b ≡ clear)
-  unfolding firstBroken
-  first-clear r rs e = pick-clear (r .broken seen b) (r .number) (r .names seen) (r .positionIn seen) (firstBroken rs seen b) e
-
-  next-clear : (r : Rule) (rs : List Rule) → r .broken seen b ≡ false → firstBroken rs seen b ≡ clear
-      → firstBroken (r ∷ rs) seen b ≡ clear
-  unfolding firstBroken
-  next-clear r rs f e = rw f e
-
-  some-clear : (rs : List Rule) → firstBroken rs seen b ≡ clear → firstBroken (rulesWhere test rs) seen b ≡ clear
-  unfolding rulesWhere
-  some-clear [] e = e
-  some-clear (r ∷ rs) e =
-      let p = first-clear r rs e in
-      let ih = some-clear rs (p .1) in
-      split (test (r .number)) (λ t. rw t (next-clear r (rulesWhere test rs) (p .0) ih)) (λ t. rw t ih)
-
-  all-clear : (rs : List Rule) → firstBroken (rulesWhere test rs) seen b ≡ clear
-      → firstBroken (rulesWhere (λ n. not (test n)) rs) seen b ≡ clear → firstBroken rs seen b ≡ clear
-  unfolding rulesWhere
-  all-clear [] e f = e
-  all-clear (r ∷ rs) e f =
-      split (test (r .number))
-      (λ t. let p = first-clear r (rulesWhere test rs) (rw t at e) in next-clear r rs (p .0) (all-clear rs (p .1) (rw t at f)))
-      (λ t.
-      let p = first-clear r (rulesWhere (λ n. not (test n)) rs) (rw t at f) in
-      next-clear r rs (p .0) (all-clear rs (rw t at e) (p .1)))
-
--- The rules of the line alone ask the same of the line as a history of its own.
-pub no-hand : lineAtHand [] ≡ []
-unfolding lineAtHand cut
-no-hand = refl
-
-pub hand-hand : (seen : List ℕ) → lineAtHand (lineAtHand seen) ≡ lineAtHand seen
-hand-hand [] = ap lineAtHand no-hand
-hand-hand (b ∷ seen) =
-    let ih = hand-hand seen in
-    split (eqb b LF)
-    (λ t.
-    let e : lineAtHand (b ∷ seen) ≡ [] = ap (λ x. lineAtHand (x ∷ seen)) (eqb-true b LF t) ∙ hand-lf seen in
-    ap lineAtHand e ∙ no-hand ∙ sym e)
-    (λ t. ap lineAtHand (hand-on seen b t) ∙ hand-on (lineAtHand seen) b t ∙ ap (λ l. b ∷ l) ih ∙ sym (hand-on seen b t))
-
-module _ (seen : List ℕ) where
-  bars-hand : bars (lineAtHand seen) ≡ bars seen
-  unfolding bars
-  bars-hand = ap (λ l. length (cut bar l .ended)) (hand-hand seen)
-
-  word-hand : word (lineAtHand seen) ≡ word seen
-  unfolding word
-  word-hand = ap (λ l. cut bar l .hand) (hand-hand seen)
-
-  row-hand : rowAtHand (lineAtHand seen) ≡ rowAtHand seen
-  unfolding rowAtHand
-  row-hand = ap rowOf (hand-hand seen)
-
-  alone : (b : ℕ) → firstBroken lineRules (lineAtHand seen) b ≡ firstBroken lineRules seen b
-  unfolding rules rulesWhere asksBefore firstBroken inField pastFields isCodeBar isFieldBar formAtHand rowToBe controlByte wrongByte
-      breaks1 breaks2 breaks3 breaks7 breaks8 breaks9 breaks10 breaks11 breaks12 breaks24
-  alone b = rw (bars-hand, word-hand, row-hand)
-
--- The rules that ask of the lines before.
-abbrev placeRules : List Rule
-placeRules = rulesWhere asksBefore rules
-
--- They ask nothing but at a bar: that after field 1, and those after the later fields.
-module _ (seen : List ℕ) where
-  elsewhere-clear : (b : ℕ) → isCodeBar seen b ≡ false → isFieldBar seen b ≡ false → firstBroken placeRules seen b ≡ clear
-  unfolding rules rulesWhere asksBefore firstBroken breaks4 breaks5 breaks6 breaks13 breaks20 breaks21 breaks23
-  elsewhere-clear b c f = rw (c, f)
-
-  code-bar-clear : bars seen ≡ 1 → Known (rowToBe seen) (rows seen) → againstOpening (rowToBe seen) (lines seen) ≡ false
-      → firstBroken placeRules seen bar ≡ clear
-  unfolding rules rulesWhere asksBefore firstBroken inField isCodeBar isFieldBar isPairBar formAtHand formOf
-      breaks4 breaks5 breaks6 breaks13 breaks20 breaks21 breaks23
-  code-bar-clear z k o = simp (z, k .1, k .2, o, row-early seen (omega arith), fields-none, none-kind, later-none)
-
-  field-bar-clear : 2 ≤ bars seen
-      → (formOf (kind (rowAtHand seen) (bars seen)) .isCount ≡ true → states (due (rowAtHand seen) (rows seen)) (word seen) ≡ true)
-      → (bars seen ≡ laterDate (rowAtHand seen) → NewPair (withBar seen) (lines seen))
-      → (rowAtHand seen ≡ row9999 → bars seen ≡ 2 → allTrue (row9999 ∷ rows seen) (lines seen) ≡ true)
-      → firstBroken placeRules seen bar ≡ clear
-  unfolding rules rulesWhere asksBefore firstBroken isCodeBar breaks4 breaks5 breaks6
-  field-bar-clear h counts pair told = rw (ne-eqb (bars seen) 1 (λ z. omega arith), thirteen, twenty, twenty-one, twenty-three)
-    where
-      thirteen : breaks13 seen bar ≡ false
-      thirteen =
-          unfold breaks13 formAtHand in
-          under-fails (isFieldBar seen bar && formOf (kind (rowAtHand seen) (bars seen)) .isCount) _
-          (λ t. rw (counts (and-right (isFieldBar seen bar) (formOf (kind (rowAtHand seen) (bars seen)) .isCount) t)))
-
-      twenty : breaks20 seen bar ≡ false
-      twenty =
-          unfold breaks20 isPairBar in
-          under-fails (isFieldBar seen bar) _
-          (λ f. under-fails (eqb (bars seen) (laterDate (rowAtHand seen))) (seenBefore (withBar seen) (lines seen))
-          (λ t. pair (eqb-true (bars seen) (laterDate (rowAtHand seen)) t) .0))
-
-      twenty-one : breaks21 seen bar ≡ false
-      twenty-one =
-          unfold breaks21 isPairBar in
-          under-fails (isFieldBar seen bar) _
-          (λ f. under-fails (eqb (bars seen) (laterDate (rowAtHand seen))) (crowded (withBar seen) (lines seen))
-          (λ t. pair (eqb-true (bars seen) (laterDate (rowAtHand seen)) t) .1))
-
-      twenty-three : breaks23 seen bar ≡ false
-      twenty-three =
-          unfold breaks23 in
-          under-fails (isFieldBar seen bar) _
-          (λ f. under-fails (eqb (rowAtHand seen) row9999 && eqb (bars seen) 2) _
-          (λ t. rw (told (eqb-true (rowAtHand seen) row9999 (and-left (eqb (rowAtHand seen) row9999) (eqb (bars seen) 2) t))
-          (eqb-true (bars seen) 2 (and-right (eqb (rowAtHand seen) row9999) (eqb (bars seen) 2) t)))))
 
 -- A clean history has good lines.
 module _ (seen : List ℕ) (b : ℕ) (e : fault seen b ≡ clear) where
@@ -194,7 +77,7 @@ line-stands seen c e =
     }
 
 pub clean-lines : (seen : List ℕ) → Clean seen → GoodLines (lines seen)
-clean-lines [] c = unfold lines cut in tt
+clean-lines [] c = rw no-lines tt
 clean-lines (b ∷ seen) c =
     let d = clean-before seen b c in
     let e = clean-clear seen b c in
