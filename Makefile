@@ -1,8 +1,9 @@
 # What a user runs. `make test` is the whole gate: it ends in rt's own 'N passed, 0 failed'.
-.PHONY: test compare bench peer long kit cargo
+.PHONY: test compare exchange bench peer long kit cargo
 
 SEED = 1
 CASES = 58500
+FILES = 2000
 
 test: kit cargo
 	@tools/test
@@ -10,6 +11,10 @@ test: kit cargo
 # The proved checker against the independent one, for longer runs: make compare SEED=7 CASES=200000
 compare: kit cargo
 	@tools/compare $(SEED) $(CASES)
+
+# Neighbouring groups change places (request m), for longer runs: make exchange SEED=7 FILES=10000
+exchange: kit cargo
+	@tools/exchange $(SEED) $(FILES)
 
 # Executed instructions per byte beside the C peer's. Not part of the tests.
 bench: kit

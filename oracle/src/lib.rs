@@ -11,6 +11,7 @@ pub mod compare;
 mod content;
 mod count;
 mod date;
+pub mod exchange;
 pub mod generate;
 pub mod kinds;
 mod lines;

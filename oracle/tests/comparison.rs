@@ -114,7 +114,7 @@ fn every_fault_is_caught() {
     let names: Vec<&str> = lines.iter().map(|line| line[0]).collect();
     let faults = faults();
     assert!(names.iter().chain(&OF_PROCESS).eq(&faults));
-    assert_eq!(faults.len(), 355);
+    assert_eq!(faults.len(), 360);
     for line in lines {
         let [name, _, differing, beside] = line[..] else { panic!("{line:?}") };
         assert_ne!(differing, "0", "{name}");

@@ -31,7 +31,7 @@ pub struct Plan {
 
 impl Plan {
     pub fn new(seed: u64) -> Self {
-        Plan { seed, swept: Swept::new(mixed(seed)) }
+        Plan { seed, swept: Swept::new(Random::mixed(seed)) }
     }
 
     /// How many cases it takes to have all swept files among them.
@@ -93,7 +93,7 @@ impl Plan {
     }
 
     fn case_seed(&self, number: usize) -> u64 {
-        mixed(self.seed ^ mixed(number as u64).number()).number()
+        Random::case_seed(self.seed, number)
     }
 }
 
@@ -101,11 +101,6 @@ impl Plan {
 /// four being by chance.
 fn cases_for(files: usize) -> usize {
     files + files.saturating_sub(1) / 3
-}
-
-/// The seeds of neighbours are neighbours, so they are mixed before use.
-fn mixed(seed: u64) -> Random {
-    Random::from_seed(Random::from_seed(seed).number())
 }
 
 fn made_case(number: usize, seed: u64, file: File, mut random: Random, simple: bool) -> Case {

@@ -9,27 +9,18 @@ use super::expected::{expected_texts, first_final};
 use super::kind_tally::met_in_case;
 use super::options::Options;
 use super::outcome::Outcome;
-use std::io::{self, BufRead, BufReader, Write};
-use std::process::{Child, ChildStdin, Command as Process, Stdio};
+use super::program::Program;
+use std::io::{self, Write};
+use std::process::ChildStdin;
 use std::sync::mpsc::{channel, Receiver, Sender};
 use std::thread;
-use std::time::Duration;
 
 /// Cases that differ are printed and saved up to these numbers.
 const MOST_PRINTED: usize = 3;
 const MOST_SAVED: usize = 50;
 
-/// Hundredths of a second the program has to end in.
-const LONGEST_END: usize = 1000;
-
 pub fn run(options: &Options) -> io::Result<Outcome> {
-    let mut program = Process::new("sh")
-        .args(["-c", &options.program])
-        .stdin(Stdio::piped())
-        .stdout(Stdio::piped())
-        .spawn()?;
-    let to_program = program.stdin.take().expect("its input is a pipe");
-    let from_program = BufReader::new(program.stdout.take().expect("its output is a pipe"));
+    let (mut program, to_program) = Program::start(&options.program)?;
     let plan = Plan::new(options.seed);
     let mut outcome = Outcome { cases_with_kinds: plan.cases_with_kinds(), ..Outcome::default() };
     let cases = options.cases;
@@ -37,8 +28,8 @@ pub fn run(options: &Options) -> io::Result<Outcome> {
     let (queue, queued) = channel();
     // not joined: it has ended if all cases came, and may be stuck if not
     thread::spawn(move || write_cases(plan, cases, to_program, queue));
-    compare_cases(options, queued, from_program, &mut outcome)?;
-    stop(&mut program, &mut outcome)?;
+    compare_cases(options, queued, &mut program, &mut outcome)?;
+    outcome.complaints.extend(program.stop()?);
     Ok(outcome)
 }
 
@@ -57,12 +48,12 @@ fn write_cases(plan: Plan, cases: usize, mut to_program: ChildStdin, queue: Send
 fn compare_cases(
     options: &Options,
     queued: Receiver<Case>,
-    mut from_program: impl BufRead,
+    program: &mut Program,
     outcome: &mut Outcome,
 ) -> io::Result<()> {
     for case in queued {
         let expected = expected_texts(&case.commands);
-        let got = read_texts(&mut from_program, expected.len())?;
+        let got = program.read_texts(expected.len())?;
         let ended = got.len() < expected.len();
         outcome.cases += 1;
         outcome.answers += got.len();
@@ -81,7 +72,7 @@ fn compare_cases(
     if outcome.cases < options.cases {
         outcome.complaints.push("the program did not read all cases".to_string());
     }
-    if !read_texts(&mut from_program, 1)?.is_empty() {
+    if !program.read_texts(1)?.is_empty() {
         outcome.complaints.push("the program wrote more than it was asked".to_string());
     }
     Ok(())
@@ -95,51 +86,4 @@ fn report(difference: &Difference, options: &Options, outcome: &Outcome) -> io::
         difference.print(options);
     }
     Ok(())
-}
-
-/// That many lines without their ends, or as many as come. A last line
-/// that is not ended is marked, so that it equals no expected one.
-fn read_texts(from: &mut impl BufRead, count: usize) -> io::Result<Vec<String>> {
-    let mut texts = Vec::new();
-    while texts.len() < count {
-        let mut bytes = Vec::new();
-        if from.read_until(b'\n', &mut bytes)? == 0 {
-            break;
-        }
-        let text = match bytes.strip_suffix(b"\n") {
-            Some(line) => line.escape_ascii().to_string(),
-            None => format!("{} (line not ended)", bytes.escape_ascii()),
-        };
-        texts.push(text);
-    }
-    Ok(texts)
-}
-
-/// Nothing more is read or written, so the program should end by itself.
-fn stop(program: &mut Child, outcome: &mut Outcome) -> io::Result<()> {
-    for _ in 0..LONGEST_END {
-        if let Some(status) = program.try_wait()? {
-            if !status.success() {
-                outcome.complaints.push(format!("the program ended with {status}"));
-            }
-            return Ok(());
-        }
-        thread::sleep(Duration::from_millis(10));
-    }
-    outcome.complaints.push("the program did not end by itself".to_string());
-    program.kill()
-}
-
-#[cfg(test)]
-mod tests {
-    use super::read_texts;
-
-    #[test]
-    fn texts_read() {
-        let mut from = &b"open 0 0 totals 0\nopen 1 1 totals 1\r\nopen"[..];
-        assert_eq!(read_texts(&mut from, 1).unwrap(), ["open 0 0 totals 0"]);
-        let rest = ["open 1 1 totals 1\\r", "open (line not ended)"];
-        assert_eq!(read_texts(&mut from, 5).unwrap(), rest);
-        assert!(read_texts(&mut from, 1).unwrap().is_empty());
-    }
 }

@@ -74,9 +74,7 @@ fn no_lines(random: &mut Random, room: usize) -> Vec<u8> {
 
 /// A case of at most `max_len` bytes, the same for the same seed.
 pub fn case(seed: u64, max_len: usize) -> Case {
-    let mut random = Random::from_seed(seed);
-    // the seeds of neighbours are neighbours, so mix them before use
-    let mut random = Random::from_seed(random.number());
+    let mut random = Random::mixed(seed);
     for _ in 0..50 {
         let room = room(&mut random, max_len);
         let (name, family) = pick_family(&mut random);

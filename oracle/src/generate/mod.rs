@@ -19,7 +19,7 @@ mod pieces;
 pub(crate) mod place_cases;
 mod random;
 mod shape_cases;
-mod stated_cases;
+pub(crate) mod stated_cases;
 pub(crate) mod tree;
 pub(crate) mod wrong_bytes;
 

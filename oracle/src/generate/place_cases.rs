@@ -9,14 +9,14 @@ use crate::rows::{row_with_code, rows};
 
 const BARE: Fullness = Fullness { filled: 0, longest: 0 };
 
-/// Lines of these codes with empty fields.
-fn bare_lines(random: &mut Random, codes: &[&str]) -> Vec<DraftLine> {
-    let row = |code: &str| row_with_code(code.as_bytes()).expect("a known code");
-    codes.iter().map(|code| good_line(random, row(code), BARE)).collect()
+/// A file of just these lines between the opening and closing of one block, their
+/// fields empty.
+pub fn block_file(random: &mut Random, codes: &[&str]) -> Draft {
+    filled_block_file(random, codes, BARE)
 }
 
-/// A file of just these lines between the opening and closing of one block.
-pub fn block_file(random: &mut Random, codes: &[&str]) -> Draft {
+/// The same with fields so full.
+pub fn filled_block_file(random: &mut Random, codes: &[&str], fullness: Fullness) -> Draft {
     let block = &codes[0][..1];
     let (opening, closing) = (format!("{block}001"), format!("{block}990"));
     let mut all = vec!["0000", "0001"];
@@ -29,13 +29,19 @@ pub fn block_file(random: &mut Random, codes: &[&str]) -> Draft {
         all.extend(["9001", "9990"]);
     }
     all.push("9999");
-    bare_file(random, &all)
+    filled_file(random, &all, fullness)
 }
 
 /// A file of lines of these codes and no others, marks and counts as they must be,
 /// and dates where two lines would have the same period.
 pub fn bare_file(random: &mut Random, codes: &[&str]) -> Draft {
-    let mut draft = Draft { lines: bare_lines(random, codes) };
+    filled_file(random, codes, BARE)
+}
+
+fn filled_file(random: &mut Random, codes: &[&str], fullness: Fullness) -> Draft {
+    let row = |code: &str| row_with_code(code.as_bytes()).expect("a known code");
+    let lines = codes.iter().map(|code| good_line(random, row(code), fullness)).collect();
+    let mut draft = Draft { lines };
     draft.mend_periods();
     draft.mend_openings();
     draft.mend_counts();

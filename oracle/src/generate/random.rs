@@ -10,6 +10,16 @@ impl Random {
         Random { state: seed }
     }
 
+    /// The seeds of neighbours are neighbours, so they are mixed before use.
+    pub fn mixed(seed: u64) -> Self {
+        Random::from_seed(Random::from_seed(seed).number())
+    }
+
+    /// The seed of a case by its number, in a run with this seed.
+    pub fn case_seed(seed: u64, number: usize) -> u64 {
+        Random::mixed(seed ^ Random::mixed(number as u64).number()).number()
+    }
+
     pub fn number(&mut self) -> u64 {
         self.state = self.state.wrapping_add(0x9E37_79B9_7F4A_7C15);
         let mut mixed = self.state;

@@ -37,10 +37,19 @@ pub fn stated_before_lines_changed(random: &mut Random, room: usize) -> Vec<u8> 
     draft.write()
 }
 
+/// All codes of the file stated, most often with one statement made untrue.
+pub fn all_codes_stated(random: &mut Random, room: usize) -> Vec<u8> {
+    let mut draft = with_all_codes_stated(random, room.min(150));
+    if random.percent(60) {
+        spoil(random, &mut draft);
+    }
+    draft.write()
+}
+
 /// Every code of the file stated once, in the order of the rows, as a program
 /// would write it.
-pub fn all_codes_stated(random: &mut Random, room: usize) -> Vec<u8> {
-    let mut draft = good_file(random, room.min(150));
+pub fn with_all_codes_stated(random: &mut Random, room: usize) -> Draft {
+    let mut draft = good_file(random, room);
     let own = |code: &[u8]| [&b"9900"[..], b"9001"].contains(&code);
     let codes = rows().iter().map(|row| row.code.as_bytes().to_vec());
     let stated: Vec<Vec<u8>> =
@@ -49,10 +58,7 @@ pub fn all_codes_stated(random: &mut Random, room: usize) -> Vec<u8> {
     draft.lines.splice(end..end, stated.into_iter().map(statement));
     draft.mend_openings();
     draft.mend_counts();
-    if random.percent(60) {
-        spoil(random, &mut draft);
-    }
-    draft.write()
+    draft
 }
 
 fn with_statements(random: &mut Random, room: usize) -> Draft {

@@ -1,7 +1,7 @@
 //! Good files: random trees of lines that follow the layout, always with
 //! one wanted row in them.
 
-use super::draft::Draft;
+use super::draft::{Draft, DraftLine};
 use super::fill::{good_line, Fullness};
 use super::periods::{dates_of, new_dates, set_dates};
 use super::random::Random;
@@ -36,6 +36,18 @@ pub fn good_file_with(random: &mut Random, room: usize, wanted: usize) -> Draft 
     tree.draft.mend_openings();
     tree.draft.mend_counts();
     tree.draft
+}
+
+/// A line of the row with lines below it as chance and room have it.
+pub fn good_group(
+    random: &mut Random,
+    row: usize,
+    room: usize,
+    fullness: Fullness,
+) -> Vec<DraftLine> {
+    let mut tree = Tree { draft: Draft::default(), fullness, room, used: 0 };
+    tree.grow(random, row, &[]);
+    tree.draft.lines
 }
 
 fn fullness(random: &mut Random, room: usize) -> Fullness {

@@ -3,7 +3,7 @@
 use crate::shown::Shown;
 use crate::told::Told;
 use crate::{
-    check_digits, counts, forgives, forgives_fields, joins, late_blocks, lost_totals,
+    check_digits, counts, forgives, forgives_fields, joins, late_blocks, lost_totals, orders,
     period_answers, period_keys, period_lines, positions, refuses_fields, says, sees,
     statement_answers, statements, totals,
 };
@@ -89,7 +89,7 @@ const fn numbering(name: &'static str, numbers: fn(&[u8], Answer, bool) -> (u64,
     Fault { name, numbers, ..NONE }
 }
 
-pub const FAULTS: [Fault; 349] = [
+pub const FAULTS: [Fault; 354] = [
     joining("loses-cr", joins::without_last_cr),
     joining("loses-cr-at-empty-piece", joins::cr_lost_at_empty_piece),
     joining("loses-code", joins::code_lost),
@@ -337,6 +337,11 @@ pub const FAULTS: [Fault; 349] = [
     saying("block-8-asked-for", late_blocks::block_8_asked_for),
     saying("block-8-before-letters", late_blocks::block_8_before_letters),
     saying("9990-without-9900", late_blocks::closing_without_9900),
+    saying("rows-in-order", orders::rows_in_order),
+    saying("limit-in-a-run", orders::limit_in_a_run),
+    saying("lines-stay-open", orders::lines_stay_open),
+    saying("periods-in-order", orders::periods_in_order),
+    saying("statements-in-order", orders::statements_in_order),
     saying("lf-after-bar-is-2", says::lf_after_bar_is_2),
     saying("control-after-fields-is-2", says::control_after_fields_is_2),
     saying("byte-26-at-end", forgives::byte_26_at_end),

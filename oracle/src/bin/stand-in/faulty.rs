@@ -52,6 +52,13 @@ impl Faulty {
         }
     }
 
+    /// What it says at the finish of a file that comes in one piece.
+    pub fn judge(&mut self, file: &[u8]) -> (Answer, Totals) {
+        self.piece(file);
+        let answer = self.finish();
+        (answer, self.totals(Call::Finish))
+    }
+
     fn start_anew(&mut self) {
         let finished = self.finished && self.fault.stays_finished;
         let other_files = sum(self.past.other_files, self.past.totals);

@@ -2,7 +2,8 @@
 //! comparison itself. It answers with the oracle's own checker, or with a
 //! fault planted. `stand-in --faults` lists the faults; `stand-in no-fault`
 //! is the checker they are planted in; `stand-in --caught SEED CASES` says
-//! which of them show.
+//! which of them show. `stand-in --file [FAULT]` stands in for the program that
+//! checks the file on its standard input.
 
 mod caught;
 mod check_digits;
@@ -15,6 +16,7 @@ mod honest;
 mod joins;
 mod late_blocks;
 mod lost_totals;
+mod orders;
 mod period_answers;
 mod period_keys;
 mod period_lines;
@@ -30,11 +32,13 @@ mod stating;
 mod told;
 mod totals;
 
-use fault::{FAULTS, NONE};
+use fault::{Fault, FAULTS, NONE};
 use faulty::Faulty;
 use honest::Honest;
 use oracle::compare::Command;
-use std::io::{self, BufReader, BufWriter, Write};
+use oracle::exchange::printed;
+use oracle::judgement;
+use std::io::{self, BufReader, BufWriter, Read, Write};
 use std::process::ExitCode;
 
 /// Faults of the process, not of an answer.
@@ -58,16 +62,41 @@ fn main() -> io::Result<ExitCode> {
         caught::print_caught(seed, cases as usize);
         return Ok(ExitCode::SUCCESS);
     }
-    match FAULTS.iter().chain([&NONE]).find(|fault| fault.name == name) {
+    if name == "--file" {
+        return check_file(&std::env::args().nth(2).unwrap_or_default());
+    }
+    match fault_with(&name) {
         Some(fault) => serve(&mut Faulty::new(fault), &name),
         None if name.is_empty() || OF_PROCESS.contains(&name.as_str()) => {
             serve(&mut Honest::default(), &name)
         }
-        None => {
-            eprintln!("stand-in: no fault {name}");
-            Ok(ExitCode::from(2))
-        }
+        None => Ok(no_fault(&name)),
     }
+}
+
+fn fault_with(name: &str) -> Option<&'static Fault> {
+    FAULTS.iter().chain([&NONE]).find(|fault| fault.name == name)
+}
+
+fn no_fault(name: &str) -> ExitCode {
+    eprintln!("stand-in: no fault {name}");
+    ExitCode::from(2)
+}
+
+/// Prints what a checker with this fault says of a file; without a name, the oracle.
+fn check_file(name: &str) -> io::Result<ExitCode> {
+    let mut bytes = Vec::new();
+    io::stdin().lock().read_to_end(&mut bytes)?;
+    let (answer, totals) = match fault_with(name) {
+        Some(fault) => Faulty::new(fault).judge(&bytes),
+        None if name.is_empty() => {
+            let judged = judgement(&bytes);
+            (judged.at_finish.into(), judged.totals)
+        }
+        None => return Ok(no_fault(name)),
+    };
+    print!("{}", printed(answer, &totals));
+    Ok(ExitCode::SUCCESS)
 }
 
 fn serve(answers: &mut dyn Answers, name: &str) -> io::Result<ExitCode> {
