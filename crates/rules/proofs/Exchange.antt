@@ -23,26 +23,26 @@ module _ (before first second after : List ℕ) (wholeBefore : lineAtHand (rever
   abbrev file : List ℕ
   file = before ++ first ++ second ++ after
 
-  abbrev two : List ℕ
-  two = reverse first ++ reverse before
+  abbrev firstTwo : List ℕ
+  firstTwo = reverse first ++ reverse before
 
-  reversed : reverse file ≡ reverse after ++ (reverse second ++ two)
+  reversed : reverse file ≡ reverse after ++ (reverse second ++ firstTwo)
   reversed =
       reverse-append (before ++ first ++ second) after
       ∙ ap (λ l. reverse after ++ l) (reverse-append (before ++ first) second ∙ ap (λ l. reverse second ++ l) (reverse-append before first))
 
-  whole-two : lineAtHand two ≡ []
+  whole-two : lineAtHand firstTwo ≡ []
   whole-two = hand-join (reverse before) wholeBefore (reverse first) ∙ wholeFirst
 
-  whole-three : lineAtHand (reverse second ++ two) ≡ []
-  whole-three = hand-join two whole-two (reverse second) ∙ wholeSecond
+  whole-three : lineAtHand (reverse second ++ firstTwo) ≡ []
+  whole-three = hand-join firstTwo whole-two (reverse second) ∙ wholeSecond
 
   hand-of-parts : lineAtHand (reverse file) ≡ lineAtHand (reverse after)
-  hand-of-parts = ap lineAtHand reversed ∙ hand-join (reverse second ++ two) whole-three (reverse after)
+  hand-of-parts = ap lineAtHand reversed ∙ hand-join (reverse second ++ firstTwo) whole-three (reverse after)
 
   lines-of-parts : linesOf file ≡ linesOf after ++ (linesOf second ++ (linesOf first ++ linesOf before))
   lines-of-parts =
-      rw (reversed, lines-join (reverse second ++ two) whole-three (reverse after), lines-join two whole-two (reverse second))
+      rw (reversed, lines-join (reverse second ++ firstTwo) whole-three (reverse after), lines-join firstTwo whole-two (reverse second))
       (ap (λ l. linesOf after ++ (linesOf second ++ l)) (lines-join (reverse before) wholeBefore (reverse first)))
 
 module _ (before first second after : List ℕ) (near : Neighbours before first second after) where

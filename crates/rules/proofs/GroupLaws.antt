@@ -14,10 +14,11 @@ use Rattle.layout.proofs.BlockLaws.{opening-level, closing-level, opening-is}
 use Rattle.layout.proofs.ParentLaws.{parent-level}
 use Rattle.layout.proofs.RoleLaws.{level-row, none-level, level-0000, closing-9990, opening-row, data-level}
 use Rattle.rules.specs.Order.{last, shallower, openRows, among, isOpen, startsFile, startsBlock, endsBlock, endsFile, hangs}
-use Rattle.rules.specs.Order.{canStand, underParent}
+use Rattle.rules.specs.Order.{canStand, underParent, lastNumber}
 use Rattle.rules.specs.Counts.{linesOfRow}
 use Rattle.rules.proofs.TestLaws.{split, both, and-left, and-right, or-parts, or-left, or-right}
 use Rattle.rules.proofs.CountLaws.{lines-here, lines-past}
+use Rattle.rules.proofs.LastNumberLaws.{last-past}
 use Rattle.rules.proofs.OccurrenceLaws.{under-new, under-here, under-past}
 use Rattle.rules.proofs.StandLaws.{stand-first, stand-last, stand-opening, stand-closing, stand-data, data-closing}
 use Rattle.rules.proofs.OpenLaws.{among-shallower}
@@ -193,3 +194,9 @@ under-met r (x ∷ xs) ys zs a = go (ℕ-discrete x (parent r)) (under-met r xs 
         → underParent r (x ∷ (xs ++ ys)) ≡ underParent r (x ∷ (xs ++ zs))
     go (yes e) ih = under-new r x (xs ++ ys) e ∙ sym (under-new r x (xs ++ zs) e)
     go (no e) ih = under-above r (x ∷ []) (xs ++ ys) (xs ++ zs) (ih (rw (ne-eqb x (parent r) e) at a))
+
+-- the last line of a row of a level below n is the same as before
+pub last-under : (n p : ℕ) (more before : List ℕ) → Deep n more → level p < n → lastNumber p (more ++ before) ≡ lastNumber p before
+last-under n p [] before d h = refl
+last-under n p (x ∷ more) before d h =
+    last-past p x (more ++ before) (λ e. let l = d .0 in omega (arith, ap level e)) ∙ last-under n p more before (d .1) h

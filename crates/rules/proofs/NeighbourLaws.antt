@@ -4,76 +4,29 @@ use mathlib.Core.Path.{_≡_, _∙_, refl, sym, ap}
 use mathlib.Core.Bool.{true, false, _&&_, and-assoc, and-comm}
 use mathlib.Core.List.{List, [], _∷_, _++_, map, map-append, reverse, reverse-append, Permᴰ·reverse}
 use mathlib.Core.Logic.{⊎-elim}
-use Prim.Native.Nat.{ℕ, suc, _≤_, _<_}
+use Prim.Native.Nat.{ℕ, suc, _≤_}
 use native.Mathlib.Omega.{arith}
-use native.Mathlib.Decide.{ℕ-discrete}
 use lib.Dec.{eqb, leb, ltb}
-use lib.ListN.{length-append}
 use lib.Seq.{append-snoc}
-use borrow.Author.Tests.{eqb-true, ne-eqb, leb-true, ltb-true}
+use borrow.Author.Tests.{eqb-true, leb-true, ltb-true}
 use Rattle.layout.specs.Rows.{level, parent}
 use Rattle.layout.proofs.ParentLaws.{parent-level}
 use Rattle.layout.proofs.RoleLaws.{level-row}
 use Rattle.rules.specs.Bytes.{lineAtHand, rows, rowOf, empty}
-use Rattle.rules.specs.Order.{among, lastNumber, isData}
+use Rattle.rules.specs.Order.{lastNumber, isData}
 use Rattle.rules.specs.Rules.{isLastLine}
 use Rattle.rules.specs.Totals.{linesOf, rowsOf}
 use Rattle.rules.specs.ByLines.{GoodLines}
 use Rattle.rules.specs.Groups.{isWhole, firstRow, allDeeper, isGroup, parentLine, oneParent, areNeighbours}
 use Rattle.rules.proofs.TestLaws.{both, and-left, and-right}
-use Rattle.rules.proofs.OccurrenceLaws.{last-here, last-past, last-le}
-use Rattle.rules.proofs.GroupLaws.{Deep}
+use Rattle.rules.proofs.LastNumberLaws.{last-some, last-row-on, last-grows}
+use Rattle.rules.proofs.GroupLaws.{Deep, last-under}
 use Rattle.rules.proofs.InAnyOrder.{gathered}
 use Rattle.rules.proofs.CarryLaws.{parent-open, data-top}
 use Rattle.rules.proofs.FrameLaws.{open-among}
 use Rattle.rules.proofs.FileLaws.{lines-join}
 use Rattle.rules.proofs.HeadLaws.{Headed, group-deep, group-last}
 use Rattle.rules.proofs.ExchangeLaws.{Parted, parted, parted-rows, good-below, lines-exchange}
-
--- One line is of one row: rows whose last lines have the same number are the same.
-last-some : (p : ℕ) (before : List ℕ) → among p before ≡ true → 1 ≤ lastNumber p before
-unfolding among
-last-some p [] a = both a refl
-last-some p (x ∷ before) a = go (ℕ-discrete x p) (last-some p before)
-  where
-    go : Dec (x ≡ p) → (among p before ≡ true → 1 ≤ lastNumber p before) → 1 ≤ lastNumber p (x ∷ before)
-    go (yes e) ih = omega (arith, last-here p x before e)
-    go (no d) ih = omega (arith, last-past p x before d, ih (rw (ne-eqb x p d) at a))
-
-last-row : (p q : ℕ) (before : List ℕ) → 1 ≤ lastNumber p before → lastNumber p before ≡ lastNumber q before → p ≡ q
-last-row p q [] some e = absurd (unfold lastNumber in omega arith)
-last-row p q (x ∷ before) some e = go (ℕ-discrete x p) (ℕ-discrete x q) (last-row p q before)
-  where
-    go : Dec (x ≡ p) → Dec (x ≡ q) → (1 ≤ lastNumber p before → lastNumber p before ≡ lastNumber q before → p ≡ q) → p ≡ q
-    go (yes a) (yes b) ih = sym a ∙ b
-    go (yes a) (no b) ih = absurd (omega (arith, last-here p x before a, last-past q x before b, last-le q before))
-    go (no a) (yes b) ih = absurd (omega (arith, last-past p x before a, last-here q x before b, last-le p before))
-    go (no a) (no b) ih =
-        let forP = last-past p x before a in let forQ = last-past q x before b in ih (omega arith) (omega arith)
-
--- also where more lines have come, if the line is none of these
-last-row-on : (p q : ℕ) (more before : List ℕ) → 1 ≤ lastNumber p before → lastNumber p before ≡ lastNumber q (more ++ before) → p ≡ q
-last-row-on p q [] before some e = last-row p q before some e
-last-row-on p q (x ∷ more) before some e = go (ℕ-discrete x q) (last-row-on p q more before some)
-  where
-    go : Dec (x ≡ q) → (lastNumber p before ≡ lastNumber q (more ++ before) → p ≡ q) → p ≡ q
-    go (yes a) ih =
-        absurd (omega (arith, last-here q x (more ++ before) a, last-le p before, length-append more before))
-    go (no a) ih = ih (e ∙ last-past q x (more ++ before) a)
-
--- a row's last line is no earlier where more lines have come, and the same where these are of level n or deeper and the row is not
-last-grows : (p : ℕ) (more before : List ℕ) → lastNumber p before ≤ lastNumber p (more ++ before)
-last-grows p [] before = omega arith
-last-grows p (x ∷ more) before = go (ℕ-discrete x p) (last-grows p more before)
-  where
-    go : Dec (x ≡ p) → lastNumber p before ≤ lastNumber p (more ++ before) → lastNumber p before ≤ lastNumber p (x ∷ (more ++ before))
-    go (yes e) ih = omega (arith, last-here p x (more ++ before) e, last-le p before, length-append more before)
-    go (no d) ih = omega (arith, last-past p x (more ++ before) d)
-
-last-under : (n p : ℕ) (more before : List ℕ) → Deep n more → level p < n → lastNumber p (more ++ before) ≡ lastNumber p before
-last-under n p [] before d h = refl
-last-under n p (x ∷ more) before d h =
-    last-past p x (more ++ before) (λ e. let l = d .0 in omega (arith, ap level e)) ∙ last-under n p more before (d .1) h
 
 -- Groups.
 whole : (part : List ℕ) → isWhole part ≡ true → lineAtHand (reverse part) ≡ []

@@ -13,6 +13,7 @@ use Rattle.rules.specs.Order.{underParent, lastNumber}
 use Rattle.layout.specs.Lists.{tabulate}
 use Rattle.rules.proofs.TestLaws.{pick-le}
 use Rattle.rules.proofs.AllRows.{AllRows}
+use Rattle.rules.proofs.LastNumberLaws.{last-here, last-past, last-le}
 use Rattle.layout.proofs.ParentLaws.{parent-level, parent-none}
 use Rattle.layout.proofs.TabulateLaws.{tabulate-at, tabulate-past, tabulate-set}
 
@@ -23,14 +24,6 @@ occurred k (r ∷ rows) = pick (eqb r k) (suc (underParent k rows)) (occurred k 
 
 -- what one more line does
 module _ (k r : ℕ) (rows : List ℕ) where
-  pub last-here : r ≡ k → lastNumber k (r ∷ rows) ≡ suc (length rows)
-  unfolding lastNumber
-  last-here e = rw (eq-eqb r k e)
-
-  pub last-past : (r ≡ k → ⊥) → lastNumber k (r ∷ rows) ≡ lastNumber k rows
-  unfolding lastNumber
-  last-past e = rw (ne-eqb r k e)
-
   pub occurred-here : r ≡ k → occurred k (r ∷ rows) ≡ suc (underParent k rows)
   unfolding occurred
   occurred-here e = rw (eq-eqb r k e)
@@ -50,11 +43,6 @@ module _ (k r : ℕ) (rows : List ℕ) where
   pub under-past : (r ≡ parent k → ⊥) → (r ≡ k → ⊥) → underParent k (r ∷ rows) ≡ underParent k rows
   unfolding underParent
   under-past o e = rw (ne-eqb r (parent k) o, ne-eqb r k e)
-
-pub last-le : (k : ℕ) (rows : List ℕ) → lastNumber k rows ≤ length rows
-unfolding lastNumber
-last-le k [] = omega arith
-last-le k (r ∷ rows) = let h = last-le k rows in pick-le (eqb r k) _ _ _ (omega arith) (omega arith)
 
 pub under-le : (k : ℕ) (rows : List ℕ) → underParent k rows ≤ length rows
 unfolding underParent

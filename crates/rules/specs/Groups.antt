@@ -62,7 +62,7 @@ GroupsExchange =
     × (countsOf (exchanged before first second after) ≡ countsOf (before ++ first ++ second ++ after))
     × (totalsOf (exchanged before first second after) ≡ totalsOf (before ++ first ++ second ++ after))
 
--- and no more is accepted: where the new file is, so was the file. So both clerks are answered alike.
+-- and where the new file is accepted, so is the file: of two clerks both are accepted, or neither
 abbrev pub ExchangedBack : Type 0
 ExchangedBack =
     (before first second after : List ℕ) → areNeighbours before first second after ≡ true

@@ -19,7 +19,7 @@ use Rattle.rules.proofs.TestLaws.{both, and-left, and-right}
 use Rattle.rules.proofs.CountLaws.{counts-length}
 use Rattle.rules.proofs.FollowsLaws.{none-broken-open, follows-accepted, accepted-follows, first-refused, short-refused}
 use Rattle.rules.proofs.FollowsLaws.{refused-names}
-use Rattle.rules.proofs.Exchange.{groups-exchange}
+use Rattle.rules.proofs.Exchange.{groups-exchange, exchanged-back}
 use Rattle.rules.proofs.TotalLaws.{accepted-last, accepted-sum, accepted-total, accepted-closing, accepted-first}
 use Rattle.rules.proofs.TotalLaws.{accepted-there, accepted-has-0-and-9, accepted-statement, accepted-once, accepted-pairs}
 use Rattle.line.specs.Machine.{positionOf}
@@ -445,13 +445,16 @@ same-report file other s t h g e buffer a b x y p q = go (decLt (length buffer) 
         ∙ sym (report-at-any-time file s buffer a x h (omega arith) p .2)
 
 pub groups-may-be-exchanged : D.GroupsMayBeExchanged
-groups-may-be-exchanged before first second after near s r h c t q g d l n e =
+groups-may-be-exchanged before first second after near s r h c t q g d l n =
     let file = before ++ first ++ second ++ after in
-    let other = exchanged before first second after in
-    let same = groups-exchange before first second after near l n (sym (c .joined file h) ∙ e) in (
-      d .joined other g ∙ same .0,
-      same-report file other (r .state) (q .state) (inr (c .closed file h)) (inr (d .closed other g)) (same .1),
-      d .totalled other g ∙ same .2 ∙ sym (c .totalled file h),
+    let other = exchanged before first second after in (
+      (λ e.
+          let same = groups-exchange before first second after near l n (sym (c .joined file h) ∙ e) in (
+            d .joined other g ∙ same .0,
+            same-report file other (r .state) (q .state) (inr (c .closed file h)) (inr (d .closed other g)) (same .1),
+            d .totalled other g ∙ same .2 ∙ sym (c .totalled file h),
+          )),
+      (λ e. c .joined file h ∙ exchanged-back before first second after near l n (sym (d .joined other g) ∙ e)),
     )
 
 pub one-result : D.OneResult

@@ -146,16 +146,18 @@ OncePerPeriod =
 
 -- 02, request m: "if a file is accepted and two neighbouring lines of level 2 or deeper with one parent change places, each with all
 -- its dependants, the new file is accepted with the same counts for every code".
--- In whatever pieces either file came: the answer has the same lines and bytes, a report writes the same, and the totals are the same.
+-- In whatever pieces either file came: both are accepted or neither is, the answer has the same lines and bytes, a report writes the same,
+-- and the totals are the same.
 abbrev pub GroupsMayBeExchanged : Type 0
 GroupsMayBeExchanged =
     (before first second after : List ℕ) → areNeighbours before first second after ≡ true
     → (s : State) (r : Finished) → Reached (before ++ first ++ second ++ after) s → Finishes s r
-    → (t : State) (q : Finished) → Reached (exchanged before first second after) t → Finishes t q
-    → (l n : ℕ) → finallySaid (r .answer) ≡ accepted l n
+    → (t : State) (q : Finished) → Reached (exchanged before first second after) t → Finishes t q → (l n : ℕ)
+    → (finallySaid (r .answer) ≡ accepted l n
     → (finallySaid (q .answer) ≡ accepted l n)
     × ((buffer : List ℕ) (a b : ReportAnswer) (x y : List ℕ) → Reports (r .state) buffer a x → Reports (q .state) buffer b y → y ≡ x)
-    × (q .state .tally .totals ≡ r .state .tally .totals)
+    × (q .state .tally .totals ≡ r .state .tally .totals))
+    × (finallySaid (q .answer) ≡ accepted l n → finallySaid (r .answer) ≡ accepted l n)
 
 -- Document 01, "The order of lines", of an accepted file.
 
