@@ -124,7 +124,7 @@ fn fields_of_late_lines() {
         written(&lines)
     };
     // no dates and no check digits by their names, and texts by their size only
-    open(&with("9", "|9020|XXXX|99999999|00000000||11222333000144|||||||||||52998224724|||||"), 5);
+    open(&with("9", "|9020|Z999|99999999|00000000||11222333000144|||||||||||52998224724|||||"), 5);
     open(&with("9", &format!("|9020|||||||{}|||||||||||||{}|", "n".repeat(14), "h".repeat(128))), 5);
     refused(&with("9", &format!("|9020|||||||{}||||||||||||||", "n".repeat(15))), 11, 5, 8);
     refused(&with("9", &format!("|9020||||||||||||||||||||{}|", "h".repeat(129))), 11, 5, 21);

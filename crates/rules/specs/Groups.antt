@@ -1,6 +1,6 @@
 -- 02, request m, "Groups may be exchanged": "Two clerks enter the same invoices in different order."
--- A file is split into four parts: what stands before, a first group, a second group, and what stands after. A part has its bytes as
--- they are written; the rows of its lines stand in that order too, but for `before`, which has the nearest line first (as in Order).
+-- A file is split into four parts, each with its bytes as they are written: before, the first group, the second group, and after.
+-- A part's rows stand in the order of its lines; where a parent is looked for, the nearest line comes first, as in Order.
 use mathlib.Core.Path.{_≡_}
 use mathlib.Core.Bool.{Bool, true, false, _&&_}
 use mathlib.Core.List.{List, [], _∷_, _++_, reverse}
