@@ -1,12 +1,13 @@
--- The length of a month by rule is the calendar's.
+-- The length of a month by rule is the calendar's; and it is 28 days or more.
 use mathlib.Core.Path.{_≡_, _∙_, refl, sym, ap}
 use mathlib.Core.Bool.{Bool, true, false}
-use Prim.Native.Nat.{ℕ, _<_, _≤_}
+use Prim.Native.Nat.{ℕ, zero, suc, _<_, _≤_}
 use native.Mathlib.Omega.{arith}
 use lib.Dec.{ltb}
 use lib.ListN.{getD, List·getD-eq-default}
 use borrow.Author.Tests.{ltb-true, ltb-false, le-ltb, lt-ltb}
-use Rattle.layout.specs.Lists.{tabulate}
+use Rattle.layout.specs.Lists.{tabulate, allBelow}
+use Rattle.layout.proofs.Below.{below-most}
 use Rattle.layout.proofs.TabulateLaws.{tabulate-at}
 use Rattle.rules.specs.Fields.{calendar, isLeapYear, daysOf}
 use Rattle.rules.proofs.TestLaws.{split}
@@ -33,3 +34,14 @@ unfolding daysOf
 by-rule y m =
     let leap = isLeapYear y in
     split (ltb m 100) (λ t. two-digits leap m (ltb-true m 100 t)) (λ t. from-13 leap m (omega (arith, ltb-false m 100 t)))
+
+-- each of the twelve months has 28 days or more: computed
+shortest-in : (leap : Bool) (k : ℕ) → k < 12 → 28 ≤ calendar leap (suc k)
+unfolding allBelow
+shortest-in true = below-most 12 (λ k. 28) (λ k. calendar true (suc k)) tt
+shortest-in false = below-most 12 (λ k. 28) (λ k. calendar false (suc k)) tt
+
+pub shortest : (y m : ℕ) → 1 ≤ m → m ≤ 12 → 28 ≤ daysOf y m
+unfolding daysOf
+shortest y zero l h = absurd (omega arith)
+shortest y (suc k) l h = shortest-in (isLeapYear y) k h

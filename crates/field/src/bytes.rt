@@ -15,6 +15,8 @@ pub const CLASS_LINE_CODE: u64 = layout::kinds::CLASS_LINE_CODE as u64;
 
 pub const CLASS_C: u64 = layout::kinds::CLASS_C as u64;
 
+pub const CLASS_N: u64 = layout::kinds::CLASS_N as u64;
+
 pub const CLASS_N_ANY: u64 = layout::kinds::CLASS_N_ANY as u64;
 
 pub const CLASS_DECIMALS: u64 = layout::kinds::CLASS_DECIMALS as u64;

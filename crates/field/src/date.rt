@@ -1,12 +1,16 @@
 // Whether the number ddmmyyyy is a Gregorian date, year 1900 to 2099.
 ghost use mathlib.Core.Path.{_≡_};
 ghost use Prim.Native.Nat.{_≤_};
+ghost use lib.Dec.{leb};
 ghost use Rattle.rules.specs.Fields.{isDate, isLeapYear, daysOf};
 ghost use Rattle.field.specs.Months.{daysFromMarch};
 
 const MONTHS: u64 = 12;
 
 const MARCH: u64 = 3;
+
+// Every month has so many days.
+const SHORTEST: u64 = 28;
 
 const COMMON_YEAR: u64 = 365;
 
@@ -54,6 +58,16 @@ fn days_of(y: u64, m: u64) -> u64
     days_from_march(y, before + 1) - days_from_march(y, before)
 }
 
+// Whether a month has the day. Most days are told without a look at how long the month is.
+fn is_day(day: u64, month: u64, year: u64) -> bool
+    ensures { λ r. ⌜ r ≡ leb day (daysOf year month) ⌝ }
+{
+    if day <= SHORTEST && 1 <= month && month <= MONTHS {
+        return true;
+    }
+    day <= days_of(year, month)
+}
+
 pub fn is_date(n: u64) -> bool
     ensures { λ r. ⌜ r ≡ isDate n ⌝ }
 {
@@ -63,7 +77,7 @@ pub fn is_date(n: u64) -> bool
     if day < 1 {
         return false;
     }
-    if days_of(year, month) < day {
+    if !is_day(day, month, year) {
         return false;
     }
     if year < 1900 {

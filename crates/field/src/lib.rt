@@ -1,5 +1,5 @@
 // One field as it streams through, byte by byte, in constant space.
 pub mod bytes;
-mod check_digits;
-mod date;
+pub mod check_digits;
+pub mod date;
 pub mod fault;

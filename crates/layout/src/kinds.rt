@@ -32,7 +32,7 @@ pub const CLASS_LINE_CODE: u32 = 2;
 pub const CLASS_C: u32 = 3;
 
 // N: digits, exactly so many; and N without a size.
-const CLASS_N: u32 = 4;
+pub const CLASS_N: u32 = 4;
 
 pub const CLASS_N_ANY: u32 = 5;
 

@@ -25,7 +25,7 @@ const ROW_9990: usize = ROWS - 2;
 pub const ROW_9999: usize = ROWS - 1;
 
 // The lowest level of a data line.
-const DATA_LEVEL: u64 = 2;
+pub const DATA_LEVEL: u64 = 2;
 
 // What an opening says: data to come, or none.
 pub const WITH_DATA: u64 = 1;
@@ -71,7 +71,7 @@ fn ends_block(rows: &[[u64; 4]; ENTRIES], last: usize, r: usize) -> bool
     0 < level_at(rows, last)
 }
 
-fn hangs(rows: &[[u64; 4]; ENTRIES], parents: &[usize; ENTRIES], last: usize, r: usize) -> bool
+pub fn hangs(rows: &[[u64; 4]; ENTRIES], parents: &[usize; ENTRIES], last: usize, r: usize) -> bool
     requires { ⌜ (now rows ≡ rowNumbers) × (now parents ≡ parentColumn) × (last ≤ rowCount) × (r < rowCount) × (2 ≤ level r) ⌝ }
     ensures { λ t. ⌜ t ≡ hangsOf last r ⌝ }
 {

@@ -46,9 +46,9 @@ use layout::rows::ROWS;
 use layout::rows::fields_at;
 use rules::BYTE_LIMIT;
 
-const BAR: u8 = 124;
+pub const BAR: u8 = 124;
 
-const CR: u8 = 13;
+pub const CR: u8 = 13;
 
 pub const LF: u8 = 10;
 
@@ -117,7 +117,7 @@ fn word_row(rows: &[[u64; 4]; ENTRIES], slots: &[usize; SLOTS], h: Hot) -> usize
 }
 
 // The kind of a row's field n. Past the row's last there is none, though the table goes on with the next row's kinds.
-fn kind_of(
+pub fn kind_of(
     rows: &[[u64; 4]; ENTRIES],
     kinds: &[u32; FIELDS],
     starts: &[usize; ENTRIES],

@@ -2,3 +2,11 @@ pub mod StepRanges
 pub mod StepLines
 pub mod TallyRanges
 pub mod RunLaws
+pub mod PassLaws
+pub mod PlaceLaws
+pub mod HeadLaws
+pub mod RowEnds
+pub mod FieldPasses
+pub mod EndPasses
+pub mod AlongLaws
+pub mod LoopLaws

@@ -99,6 +99,10 @@ onStep (Broken r f) go stop = stop r f
 abbrev pub stepWith : Hot → Tally → ℕ → Step
 stepWith h t b = stepOf h (t .stamps) (t .occurrences) (askedOf h (t .counts) (t .stated) (t .pairs)) b
 
+-- what is kept after a step
+abbrev pub keptAfter : Step → Hot → ℕ → Tally → Tally
+keptAfter s h b t = onStep s (λ n. tallyWith h (n .lines) b t) (λ rule field. t)
+
 unfoldable pub runOf : Hot → Tally → List ℕ → Checked
 runOf h t [] = openOf h t
 runOf h t (b ∷ rest) =

@@ -1,115 +1,30 @@
-// The bytes of a piece, one after the other.
+// The bytes of a piece: whole lines and fields at once, and what is left one byte after the other.
+ghost use mathlib.Core.List.{[]};
 ghost use mathlib.Core.Path.{_≡_};
-ghost use Rattle.layout.specs.Packed.{rowNumbers, parentColumn};
+ghost use Prim.Native.Nat.{_+_};
+ghost use Rattle.rules.specs.Rules.{byteLimit};
+ghost use Rattle.whole.specs.Whole.{sortTable};
 ghost use Rattle.line.specs.Machine.{Below, HotFit, Tables};
-ghost use Rattle.piece.specs.Piece.{setOf, countsWith, stampsWith, occurrencesWith, totalsWith, statedWith, pairedOf};
-ghost use Rattle.piece.specs.Piece.{pairsWith, tallyOf, runOf};
+ghost use Rattle.piece.specs.Piece.{tallyOf, stepWith, keptAfter, runOf};
 ghost use Rattle.state.specs.Ranges.{Held};
+use crate::lines::lines_from;
+use crate::notes::noted;
+use crate::notes::stated_with;
+use crate::notes::totalled;
 use crate::outcome::ended_by;
 use crate::outcome::opened;
 use layout::blocks::BLOCKS;
 use layout::codes::SLOTS;
 use layout::kinds::FIELDS;
-use layout::periods::PERIODS;
-use layout::periods::period_at;
-use layout::roles::block_at;
 use layout::rows::ENTRIES;
 use layout::rows::ROWS;
 use line::hot::Hot;
-use line::order::ROW_9900;
-use line::order::entry;
-use line::order::used;
 use line::periods::PAIRS;
-use line::periods::PAIRS_MOST;
-use line::statements::NUMBER_UNIT;
-use line::statements::joined;
-use line::step::LF;
 use line::step::Step;
 use line::step::judge;
 use state::Tally;
 use state::answers::Checked;
-
-// An array's entry at a row is set; of no row nothing is.
-fn put(array: &mut [u64; ROWS], r: usize, v: u64)
-    ensures { λ _. ⌜ now (array .exit) ≡ setOf (now (array .entry)) r v ⌝ }
-{
-    if r < ROWS {
-        array[r] = v;
-    }
-}
-
-// What a line of a row that has a period says is the next pair of its row, if there is room. So many have ended before it.
-fn paired(rows: &[[u64; 4]; ENTRIES], h: Hot, ended: u64, pairs: &mut [u64; PAIRS])
-    requires { ⌜ HotFit h ⌝ }
-    requires { ⌜ now rows ≡ rowNumbers ⌝ }
-    ensures { λ _. ⌜ now (pairs .exit) ≡ pairedOf h ended (now (pairs .entry)) ⌝ }
-{
-    let place = period_at(rows, h.row);
-    if place < PERIODS {
-        if ended < PAIRS_MOST as u64 {
-            pairs[PAIRS_MOST * place + ended as usize] = h.says;
-        }
-    }
-}
-
-// The arrays after a byte that was accepted: LF ends the line at hand, the file's line n.
-fn noted(
-    rows: &[[u64; 4]; ENTRIES],
-    parents: &[usize; ENTRIES],
-    h: Hot,
-    n: u64,
-    b: u8,
-    counts: &mut [u64; ROWS],
-    stamps: &mut [u64; ROWS],
-    occurrences: &mut [u64; ROWS],
-    pairs: &mut [u64; PAIRS],
-)
-    requires { ⌜ (now rows ≡ rowNumbers) × (now parents ≡ parentColumn) ⌝ }
-    requires { ⌜ HotFit h ⌝ }
-    requires { ⌜ Below (h .bytes) (now counts) × Below (h .bytes) (now occurrences) ⌝ }
-    ensures { λ _. ⌜ now (counts .exit) ≡ countsWith h b (now (counts .entry)) ⌝ }
-    ensures { λ _. ⌜ now (stamps .exit) ≡ stampsWith h n b (now (stamps .entry)) ⌝ }
-    ensures { λ _. ⌜ now (occurrences .exit) ≡ occurrencesWith h b (now (stamps .entry)) (now (occurrences .entry)) ⌝ }
-    ensures { λ _. ⌜ now (pairs .exit) ≡ pairsWith h b (now (counts .entry)) (now (pairs .entry)) ⌝ }
-{
-    if b == LF {
-        let r = h.row;
-        let under = used(parents, stamps, occurrences, r);
-        let ended = entry(counts, r);
-        paired(rows, h, ended, pairs);
-        put(counts, r, ended + 1);
-        put(stamps, r, n);
-        put(occurrences, r, under + 1);
-    }
-}
-
-// The totals after a byte that was accepted: LF ends the line at hand, and the total of its block is one more.
-fn totalled(rows: &[[u64; 4]; ENTRIES], h: Hot, b: u8, totals: &mut [u64; BLOCKS])
-    requires { ⌜ HotFit h ⌝ }
-    requires { ⌜ (now rows ≡ rowNumbers) × Below (h .bytes) (now totals) ⌝ }
-    ensures { λ _. ⌜ now (totals .exit) ≡ totalsWith h b (now (totals .entry)) ⌝ }
-{
-    if b != LF {
-        return;
-    }
-    let x = block_at(rows, h.row) as usize;
-    if x < BLOCKS {
-        totals[x] += 1;
-    }
-}
-
-// What is stated after a byte that was accepted: LF ends the line at hand, and a 9900 line says it of a row, or of no row.
-fn stated_with(h: Hot, b: u8, stated: &mut [u64; ENTRIES])
-    ensures { λ _. ⌜ now (stated .exit) ≡ statedWith h b (now (stated .entry)) ⌝ }
-{
-    if b != LF || h.row != ROW_9900 {
-        return;
-    }
-    let r = (h.says % NUMBER_UNIT) as usize;
-    if r < ENTRIES {
-        stated[r] = joined(stated[r], h.says / NUMBER_UNIT);
-    }
-}
+use whole::sorts::BYTES;
 
 fn tally_of(
     counts: [u64; ROWS],
@@ -131,6 +46,60 @@ fn tally_of(
     }
 }
 
+// One byte, and what is noted of it.
+fn judged(
+    rows: &[[u64; 4]; ENTRIES],
+    parents: &[usize; ENTRIES],
+    kinds: &[u32; FIELDS],
+    starts: &[usize; ENTRIES],
+    slots: &[usize; SLOTS],
+    counts: &mut [u64; ROWS],
+    stamps: &mut [u64; ROWS],
+    occurrences: &mut [u64; ROWS],
+    totals: &mut [u64; BLOCKS],
+    stated: &mut [u64; ENTRIES],
+    pairs: &mut [u64; PAIRS],
+    h: Hot,
+    b: u8,
+) -> Step
+    requires { ⌜ Tables (now rows) (now parents) (now kinds) (now starts) (now slots) ⌝ }
+    requires { ⌜ HotFit h ⌝ }
+    requires { ⌜ Below (byteLimit + 1) (now counts) × Below (byteLimit + 1) (now occurrences) × Below (byteLimit + 1) (now totals) ⌝ }
+    ensures { λ t. ⌜ t ≡ stepWith h (tallyOf (now (counts .entry)) (now (stamps .entry)) (now (occurrences .entry)) (now (totals .entry)) (now (stated .entry)) (now (pairs .entry))) b ⌝ }
+    ensures { λ t. ⌜ tallyOf (now (counts .exit)) (now (stamps .exit)) (now (occurrences .exit)) (now (totals .exit)) (now (stated .exit)) (now (pairs .exit)) ≡ keptAfter t h b (tallyOf (now (counts .entry)) (now (stamps .entry)) (now (occurrences .entry)) (now (totals .entry)) (now (stated .entry)) (now (pairs .entry))) ⌝ }
+{
+    let t = judge(
+        h,
+        rows,
+        parents,
+        kinds,
+        starts,
+        slots,
+        stamps,
+        occurrences,
+        counts,
+        stated,
+        pairs,
+        b,
+    );
+    if let Step::Next(n) = t {
+        totalled(rows, h, b, totals);
+        noted(
+            rows,
+            parents,
+            h,
+            n.lines,
+            b,
+            counts,
+            stamps,
+            occurrences,
+            pairs,
+        );
+        stated_with(h, b, stated);
+    }
+    t
+}
+
 // A piece, from a state in which nothing is refused. (The arrays are locals: each can then be lent by itself.)
 fn judge_all(
     rows: &[[u64; 4]; ENTRIES],
@@ -138,11 +107,12 @@ fn judge_all(
     kinds: &[u32; FIELDS],
     starts: &[usize; ENTRIES],
     slots: &[usize; SLOTS],
+    sorts: &[u8; BYTES],
     h0: Hot,
     tally: Tally,
     piece: &[u8],
 ) -> Checked
-    requires { ⌜ Tables (now rows) (now parents) (now kinds) (now starts) (now slots) ⌝ }
+    requires { ⌜ Tables (now rows) (now parents) (now kinds) (now starts) (now slots) × (now sorts ≡ sortTable) ⌝ }
     requires { ⌜ Held h0 tally ⌝ }
     ensures { λ r. ⌜ r ≡ runOf h0 tally (now (piece .entry)) ⌝ }
 {
@@ -153,42 +123,48 @@ fn judge_all(
     let mut totals = tally.totals;
     let mut stated = tally.stated;
     let mut pairs = tally.pairs;
+    let before = h0.bytes;
     let mut i = 0;
     while i < piece.len() {
-        let b = piece[i];
-        let t = judge(
-            h,
+        h = lines_from(
             rows,
             parents,
             kinds,
             starts,
             slots,
-            &stamps,
-            &occurrences,
-            &counts,
-            &stated,
-            &pairs,
-            b,
-        );
-        let Step::Next(n) = t else {
-            let kept = tally_of(counts, stamps, occurrences, totals, stated, pairs);
-            return ended_by(t, h, kept);
-        };
-        totalled(rows, h, b, &mut totals);
-        noted(
-            rows,
-            parents,
-            h,
-            n.lines,
-            b,
+            sorts,
             &mut counts,
             &mut stamps,
             &mut occurrences,
-            &mut pairs,
+            &mut totals,
+            piece,
+            i,
+            h,
         );
-        stated_with(h, b, &mut stated);
-        h = n;
-        i += 1;
+        i = (h.bytes - before) as usize;
+        if i < piece.len() {
+            let t = judged(
+                rows,
+                parents,
+                kinds,
+                starts,
+                slots,
+                &mut counts,
+                &mut stamps,
+                &mut occurrences,
+                &mut totals,
+                &mut stated,
+                &mut pairs,
+                h,
+                piece[i],
+            );
+            let Step::Next(n) = t else {
+                let kept = tally_of(counts, stamps, occurrences, totals, stated, pairs);
+                return ended_by(t, h, kept);
+            };
+            h = n;
+            i += 1;
+        }
     }
     opened(
         h,
@@ -206,5 +182,16 @@ pub fn run(h: Hot, tally: Tally, piece: &[u8]) -> Checked
     let kinds = layout::kinds::table();
     let starts = layout::kinds::starts();
     let slots = layout::codes::slots();
-    judge_all(&rows, &parents, &kinds, &starts, &slots, h, tally, piece)
+    let sorts = whole::sorts::sorts();
+    judge_all(
+        &rows,
+        &parents,
+        &kinds,
+        &starts,
+        &slots,
+        &sorts,
+        h,
+        tally,
+        piece,
+    )
 }

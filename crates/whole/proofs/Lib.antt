@@ -1,0 +1,5 @@
+pub mod SortLaws
+pub mod WordLaws
+pub mod PastLaws
+pub mod TextLaws
+pub mod NumberLaws

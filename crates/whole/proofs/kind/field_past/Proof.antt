@@ -1,0 +1,52 @@
+-- `kind::field_past` meets its contract.
+use mathlib.Core.Path.{refl}
+use native.Mathlib.Omega.{arith}
+use borrow.Author.Needs.{needs}
+use Rattle.whole.specs.Whole.{isQuick}
+use Rattle.whole.proofs.PastLaws.{past-farther}
+use Rattle.whole.proofs.kind.field_past.Statement.{statement}
+use Rattle.whole.proofs.kind.field_past.Tie as tie
+
+amount-past-requires : tie.Need-amount-past-requires
+amount-past-requires c κs = search needs
+
+returns : tie.Need-returns
+unfolding isQuick
+returns c = λ more. rw (c .before .if1 .taken) (past-farther _ (omega arith) (c .amount-past .ensures more), refl)
+
+text-past-requires : tie.Need-text-past-requires
+text-past-requires c κs = search needs
+
+returns-2 : tie.Need-returns-2
+unfolding isQuick
+returns-2 c = λ more.
+    let class = c .before .if2 .taken in
+    (past-farther _ (omega arith) (c .text-past .ensures _ class refl more), rw class)
+
+exact-past-requires : tie.Need-exact-past-requires
+exact-past-requires c κs = search needs
+
+returns-3 : tie.Need-returns-3
+unfolding isQuick
+returns-3 c = λ more.
+    let class = c .before .if3 .taken in
+    (past-farther _ (omega arith) (c .exact-past .ensures _ class refl more), rw class)
+
+other-past-requires : tie.Need-other-past-requires
+other-past-requires c κs = search needs
+
+returns-4 : tie.Need-returns-4
+returns-4 c = λ more. let past = c .other-past .ensures more in (past-farther _ (omega arith) (past .0), past .1)
+
+pub field-past-spec : {M : Type 1} → statement M
+field-past-spec =
+    tie.close
+    (tie.spec
+    amount-past-requires
+    returns
+    text-past-requires
+    returns-2
+    exact-past-requires
+    returns-3
+    other-past-requires
+    returns-4)
