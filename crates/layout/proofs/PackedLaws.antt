@@ -8,7 +8,8 @@ use lib.ListN.{getD, List·getD-map}
 use Rattle.layout.specs.Rows.{rowTable, rowCount, noRow, listed, code, fields, level, occurrence, parent}
 use Rattle.layout.specs.Kind.{noField}
 use Rattle.layout.specs.Kinds.{kind, fieldCount, rowStart}
-use Rattle.layout.specs.Packed.{fourNumbers, rowNumbers, parentColumn, startColumn, kindNumber, flatKinds, packedKinds}
+use Rattle.layout.specs.Silent.{silentBlock}
+use Rattle.layout.specs.Packed.{silentColumn, fourNumbers, rowNumbers, parentColumn, startColumn, kindNumber, flatKinds, packedKinds}
 use Rattle.layout.proofs.ListLaws.{with-default-at, map-at}
 use Rattle.layout.proofs.TabulateLaws.{tabulate-at}
 use Rattle.layout.proofs.KindLaws.{flat-kind, fields-within}
@@ -43,6 +44,10 @@ occurrence-entry = number-at 3
 pub parent-entry : (r : ℕ) → r ≤ rowCount → getD parentColumn r 0 ≡ parent r
 unfolding parentColumn
 parent-entry r h = tabulate-at (suc rowCount) parent r 0 (suc-le-suc h)
+
+pub silent-entry : (r : ℕ) → r ≤ rowCount → getD silentColumn r 0 ≡ silentBlock r
+unfolding silentColumn
+silent-entry r h = tabulate-at (suc rowCount) silentBlock r 0 (suc-le-suc h)
 
 pub start-entry : (r : ℕ) → r ≤ rowCount → getD startColumn r 0 ≡ rowStart r
 unfolding startColumn

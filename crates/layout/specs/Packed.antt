@@ -8,6 +8,7 @@ use Rattle.layout.specs.Rows.{Listed, rowTable, noRow, rowCount, none, c
 use Rattle.layout.specs.Kind.{Kind, codeField, lineCode, C, N, N-, decimals, date, cnpj, cpf, lfpd, brasil, opens, count, noField}
 use Rattle.layout.specs.Kind.{mostSize}
 use Rattle.layout.specs.Kinds.{kindsOf, rowStart}
+use Rattle.layout.specs.Silent.{silentBlock}
 
 -- "constant table of the .. rows (code, fields, level, occurrence)": these four numbers a row, and one row more for "no row"
 abbrev pub fourNumbers : Listed → List ℕ
@@ -23,6 +24,9 @@ column f = tabulate (suc rowCount) f
 -- "parents checked once against this rule"
 unfoldable pub parentColumn : List ℕ
 parentColumn = column parent
+
+unfoldable pub silentColumn : List ℕ
+silentColumn = column silentBlock
 
 unfoldable pub startColumn : List ℕ
 startColumn = column rowStart

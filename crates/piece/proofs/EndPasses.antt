@@ -21,7 +21,8 @@ use Rattle.state.specs.declared.Tally.{Tally}
 use Rattle.piece.specs.declared.place.Place.{Place}
 use Rattle.piece.specs.Piece.{setOf, countsWith, stampsWith, occurrencesWith, raisedOf, totalsWith, statedWith, pairedOf, pairsWith}
 use Rattle.piece.specs.Piece.{tallyOf, tallyWith}
-use Rattle.piece.specs.Places.{Passes, isSilent, lineStart, fieldStart, PassesTo, EndsHere, nextLine}
+use Rattle.layout.specs.Silent.{isSilent}
+use Rattle.piece.specs.Places.{Passes, lineStart, fieldStart, PassesTo, EndsHere, nextLine}
 use Rattle.piece.specs.Places.Passes.{here, byte}
 use Rattle.piece.proofs.PassLaws.{passes-byte}
 use Rattle.piece.proofs.PlaceLaws.{silent-period, silent-9900, silent-closing, at-line, at-field}

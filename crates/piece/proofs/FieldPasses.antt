@@ -31,9 +31,10 @@ use Rattle.line.specs.declared.hot.Hot.{Hot}
 use Rattle.line.specs.declared.step.Step.the-variants.{Next}
 use Rattle.state.specs.declared.Tally.{Tally}
 use Rattle.piece.specs.declared.place.Place.{Place}
-use Rattle.piece.specs.Places.{Passes, isSilent, barsAt, fieldStart, Placed, PassesTo, Fielded}
+use Rattle.layout.specs.Silent.{isSilent}
+use Rattle.piece.specs.Places.{Passes, barsAt, fieldStart, Placed, PassesTo, Fielded}
 use Rattle.piece.specs.Places.Passes.{here}
-use Rattle.piece.proofs.RowEnds.{code-behind}
+use Rattle.layout.proofs.RowEnds.{code-behind}
 use Rattle.piece.proofs.PassLaws.{passes-byte, passes-join}
 use Rattle.piece.proofs.PlaceLaws.{silent-later, silent-period, silent-9900, silent-9999, at-field}
 

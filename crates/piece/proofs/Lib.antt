@@ -5,7 +5,6 @@ pub mod RunLaws
 pub mod PassLaws
 pub mod PlaceLaws
 pub mod HeadLaws
-pub mod RowEnds
 pub mod FieldPasses
 pub mod EndPasses
 pub mod AlongLaws

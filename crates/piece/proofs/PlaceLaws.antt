@@ -6,14 +6,15 @@ use Prim.Native.Nat.{ℕ, zero, suc, _+_, _-_, _<_, _≤_}
 use native.Mathlib.Omega.{arith}
 use lib.Dec.{eqb, leb, ltb}
 use lib.ListN.{getD}
-use borrow.Author.Tests.{leb-true, le-ltb, not-true, eq-eqb, ne-eqb}
-use Rattle.layout.specs.Rows.{rowCount, none, fields, level, isOpening, isClosing, row0000, row9900, row9999}
+use borrow.Author.Tests.{leb-true, lt-ltb, le-ltb, not-true, eq-eqb, ne-eqb}
+use Rattle.layout.specs.Rows.{rowCount, none, fields, level, block, blocks, isOpening, isClosing, row0000, row9900, row9999}
 use Rattle.layout.specs.Kinds.{fieldCount, rowStart}
 use Rattle.layout.specs.Packed.{startColumn}
 use Rattle.layout.specs.Periods.{periodCount, periodOf, laterDate}
 use Rattle.layout.proofs.RoleLaws.{level-row, level-0000, level-9999}
 use Rattle.layout.proofs.PeriodLaws.{no-later}
 use Rattle.layout.proofs.BlockLaws.{opening-level, closing-level}
+use Rattle.layout.proofs.StartLaws.{block-below}
 use Rattle.layout.proofs.KindLaws.{fields-within}
 use Rattle.layout.proofs.PackedLaws.{start-entry}
 use Rattle.rules.proofs.TestLaws.{split, and-left, and-right}
@@ -22,7 +23,8 @@ use Rattle.field.specs.declared.bytes.Field.{Field}
 use Rattle.line.specs.Machine.{codeKind, codeOnly}
 use Rattle.line.specs.declared.hot.Hot.{Hot}
 use Rattle.piece.specs.declared.place.Place.{Place}
-use Rattle.piece.specs.Places.{isSilent, lineStart, fieldStart, hotAt, Placed, indexOf, placeOf}
+use Rattle.layout.specs.Silent.{isSilent, silentBlock}
+use Rattle.piece.specs.Places.{lineStart, fieldStart, hotAt, Placed, indexOf, placeOf}
 use Rattle.piece.specs.Places.{StartsLine, StartsField, Begins}
 
 -- A silent row is a data row without a period, and none of the named rows.
@@ -59,8 +61,19 @@ module _ (r : ℕ) (silent : isSilent r ≡ true) where
   pub silent-opening : isOpening r ≡ false
   silent-opening = split (isOpening r) (λ t. absurd (omega (arith, opening-level r silent-row t, silent-data))) (λ t. t)
 
+  -- its entry in the table of such rows is its block
+  pub silent-block : silentBlock r ≡ block r
+  unfolding silentBlock
+  silent-block = rw silent
+
   pub silent-closing : isClosing r ≡ false
   silent-closing = split (isClosing r) (λ t. absurd (omega (arith, closing-level r silent-row t, silent-data))) (λ t. t)
+
+-- and of these rows alone the entry is a block
+pub silent-below : (r : ℕ) → ltb (silentBlock r) blocks ≡ isSilent r
+unfolding silentBlock
+silent-below r =
+    split (isSilent r) (λ e. rw e (lt-ltb (block r) blocks (block-below r (silent-row r e)))) (λ e. rw e)
 
 -- The state at a place.
 module _ (p : Place) (bytes : ℕ) where

@@ -1,15 +1,15 @@
 -- Whole lines and fields at once: a place between fields or lines, the state there, and what leads from one place to the next.
-use mathlib.Core.Bool.{Bool, true, false, not, _&&_}
+use mathlib.Core.Bool.{true, false}
 use mathlib.Core.Path.{_≡_}
 use mathlib.Core.List.{List, [], _∷_}
 use Prim.Native.Nat.{ℕ, _+_, _-_, _*_, _≤_, _<_, min}
-use lib.Dec.{eqb, leb}
+use lib.Dec.{eqb}
 use lib.ListN.{length, getD, drop}
 use Rattle.layout.specs.Pick.{pick}
-use Rattle.layout.specs.Rows.{rowCount, none, fields, level, row9900, row9999}
+use Rattle.layout.specs.Rows.{rowCount, none, fields, row9999}
 use Rattle.layout.specs.Kinds.{kind, rowStart}
 use Rattle.layout.specs.Packed.{kindNumber}
-use Rattle.layout.specs.Periods.{periodCount, periodOf}
+use Rattle.layout.specs.Silent.{isSilent}
 use Rattle.rules.specs.Bytes.{CR, LF}
 use Rattle.rules.specs.Rules.{byteLimit}
 use Rattle.field.specs.Streaming.{emptyField}
@@ -27,10 +27,6 @@ pub data Passes : Hot → Tally → List ℕ → Hot → Tally → List ℕ → 
   here : {h : Hot} {t : Tally} {xs : List ℕ} → Passes h t xs h t xs
   byte : {h n h′ : Hot} {t t′ : Tally} {b : ℕ} {xs ys : List ℕ} → stepWith h t b ≡ Next n
       → Passes n (tallyWith h (n .lines) b t) xs h′ t′ ys → Passes h t (b ∷ xs) h′ t′ ys
-
--- a row whose lines say nothing: data lines, of a row that has no period, and not 9900
-unfoldable pub isSilent : ℕ → Bool
-isSilent r = leb 2 (level r) && leb periodCount (periodOf r) && not (eqb r row9900)
 
 -- The state at a place, so many bytes on: at a line's start, and at the start of a field of a row, or past its last.
 abbrev pub lineStart : Place → ℕ → Hot

@@ -6,7 +6,7 @@ ghost use mathlib.Core.Path.{_≡_};
 ghost use Prim.Native.Nat.{_+_, _-_, _≤_, _<_};
 ghost use lib.ListN.{length, getD};
 ghost use Rattle.layout.specs.Rows.{rowCount, none, rowOfCode};
-ghost use Rattle.layout.specs.Packed.{rowNumbers, parentColumn, packedKinds, startColumn, slotTable};
+ghost use Rattle.layout.specs.Packed.{rowNumbers, parentColumn, silentColumn, packedKinds, startColumn, slotTable};
 ghost use Rattle.rules.specs.Bytes.{bar};
 ghost use Rattle.rules.specs.Rules.{byteLimit};
 ghost use Rattle.whole.specs.Whole.{sortTable, longest, margin};
@@ -16,7 +16,7 @@ ghost use Rattle.piece.specs.Piece.{tallyOf};
 ghost use Rattle.piece.specs.Places.{hotAt, Placed, codeAt, Follows, Headed, Fielded, EndsHere, nextLine, safeOf, Along};
 ghost use Rattle.piece.specs.Places.{Onward};
 use crate::notes::counted;
-use crate::notes::raised;
+use crate::notes::raise;
 use crate::place::Place;
 use crate::place::begins;
 use crate::place::hot_at;
@@ -29,6 +29,7 @@ use layout::kinds::FIELDS;
 use layout::rows::ENTRIES;
 use layout::rows::ROWS;
 use layout::rows::fields_at;
+use layout::silent::silent_at;
 use line::hot::Hot;
 use line::order::hangs;
 use line::order::has_room;
@@ -76,16 +77,17 @@ fn row_from(rows: &[[u64; 4]; ENTRIES], slots: &[usize; SLOTS], s: &[u8], i: usi
 fn follows(
     rows: &[[u64; 4]; ENTRIES],
     parents: &[usize; ENTRIES],
+    silent: &[usize; ENTRIES],
     stamps: &[u64; ROWS],
     occurrences: &[u64; ROWS],
     last: usize,
     says: u64,
     r: usize,
 ) -> bool
-    requires { ⌜ (now rows ≡ rowNumbers) × (now parents ≡ parentColumn) × (last ≤ rowCount) × (r < rowCount) ⌝ }
+    requires { ⌜ (now rows ≡ rowNumbers) × (now parents ≡ parentColumn) × (now silent ≡ silentColumn) × (last ≤ rowCount) × (r < rowCount) ⌝ }
     ensures { λ t. ⌜ (t ≡ true → Follows (now (stamps .entry)) (now (occurrences .entry)) last says r) ⌝ }
 {
-    if !is_silent(rows, r) {
+    if !is_silent(silent, r) {
         return false;
     }
     if misplaced(rows, says, r) {
@@ -101,6 +103,7 @@ fn follows(
 fn head_past(
     rows: &[[u64; 4]; ENTRIES],
     parents: &[usize; ENTRIES],
+    silent: &[usize; ENTRIES],
     starts: &[usize; ENTRIES],
     slots: &[usize; SLOTS],
     stamps: &[u64; ROWS],
@@ -108,7 +111,7 @@ fn head_past(
     s: &[u8],
     p: Place,
 ) -> Place
-    requires { ⌜ (now rows ≡ rowNumbers) × (now parents ≡ parentColumn) × (now starts ≡ startColumn) × (now slots ≡ slotTable) ⌝ }
+    requires { ⌜ (now rows ≡ rowNumbers) × (now parents ≡ parentColumn) × (now silent ≡ silentColumn) × (now starts ≡ startColumn) × (now slots ≡ slotTable) ⌝ }
     requires { ⌜ Placed p × (p .row ≡ none) × (p .last ≤ rowCount) × (p .at + 6 ≤ length (now s)) ⌝ }
     ensures { λ r. ⌜ Headed (now (s .entry)) (now (stamps .entry)) (now (occurrences .entry)) p r ⌝ }
 {
@@ -117,7 +120,16 @@ fn head_past(
     if r == ROWS {
         return p;
     }
-    if !follows(rows, parents, stamps, occurrences, p.last, p.says, r) {
+    if !follows(
+        rows,
+        parents,
+        silent,
+        stamps,
+        occurrences,
+        p.last,
+        p.says,
+        r,
+    ) {
         return p;
     }
     Place {
@@ -135,6 +147,7 @@ fn head_past(
 fn begun(
     rows: &[[u64; 4]; ENTRIES],
     parents: &[usize; ENTRIES],
+    silent: &[usize; ENTRIES],
     starts: &[usize; ENTRIES],
     slots: &[usize; SLOTS],
     stamps: &[u64; ROWS],
@@ -142,14 +155,24 @@ fn begun(
     s: &[u8],
     p: Place,
 ) -> Place
-    requires { ⌜ (now rows ≡ rowNumbers) × (now parents ≡ parentColumn) × (now starts ≡ startColumn) × (now slots ≡ slotTable) ⌝ }
+    requires { ⌜ (now rows ≡ rowNumbers) × (now parents ≡ parentColumn) × (now silent ≡ silentColumn) × (now starts ≡ startColumn) × (now slots ≡ slotTable) ⌝ }
     requires { ⌜ Placed p × (p .last ≤ rowCount) × (p .at + 6 ≤ length (now s)) ⌝ }
     ensures { λ r. ⌜ Headed (now (s .entry)) (now (stamps .entry)) (now (occurrences .entry)) p r ⌝ }
 {
     if p.row != ROWS {
         return p;
     }
-    head_past(rows, parents, starts, slots, stamps, occurrences, s, p)
+    head_past(
+        rows,
+        parents,
+        silent,
+        starts,
+        slots,
+        stamps,
+        occurrences,
+        s,
+        p,
+    )
 }
 
 // Over whole fields, as far as they go. Behind a row's last field stands the next row's code, whose kind is never passed: so the
@@ -231,6 +254,7 @@ fn safe_of(before: u64, n: usize) -> usize
 fn lines_past(
     rows: &[[u64; 4]; ENTRIES],
     parents: &[usize; ENTRIES],
+    silent: &[usize; ENTRIES],
     kinds: &[u32; FIELDS],
     starts: &[usize; ENTRIES],
     slots: &[usize; SLOTS],
@@ -243,14 +267,24 @@ fn lines_past(
     before: u64,
     p0: Place,
 ) -> Place
-    requires { ⌜ Tables (now rows) (now parents) (now kinds) (now starts) (now slots) × (now sorts ≡ sortTable) ⌝ }
+    requires { ⌜ Tables (now rows) (now parents) (now kinds) (now starts) (now slots) × (now sorts ≡ sortTable) × (now silent ≡ silentColumn) ⌝ }
     requires { ⌜ Along (now s) before p0 (now counts) (now stamps) (now occurrences) (now totals) p0 (now counts) (now stamps) (now occurrences) (now totals) ⌝ }
     ensures { λ r. ⌜ Along (now (s .entry)) before p0 (now (counts .entry)) (now (stamps .entry)) (now (occurrences .entry)) (now (totals .entry)) r (now (counts .exit)) (now (stamps .exit)) (now (occurrences .exit)) (now (totals .exit)) ⌝ }
 {
     let safe = safe_of(before, s.len());
     let mut p = p0;
     while p.at < safe {
-        p = begun(rows, parents, starts, slots, stamps, occurrences, s, p);
+        p = begun(
+            rows,
+            parents,
+            silent,
+            starts,
+            slots,
+            stamps,
+            occurrences,
+            s,
+            p,
+        );
         let r = p.row;
         if r == ROWS {
             return p;
@@ -260,7 +294,7 @@ fn lines_past(
             return p;
         }
         counted(parents, r, p.lines + 1, counts, stamps, occurrences);
-        raised(rows, r, totals);
+        raise(silent_at(silent, r), totals);
         p = end_past(p);
     }
     p
@@ -270,6 +304,7 @@ fn lines_past(
 pub fn lines_from(
     rows: &[[u64; 4]; ENTRIES],
     parents: &[usize; ENTRIES],
+    silent: &[usize; ENTRIES],
     kinds: &[u32; FIELDS],
     starts: &[usize; ENTRIES],
     slots: &[usize; SLOTS],
@@ -282,18 +317,19 @@ pub fn lines_from(
     i: usize,
     h: Hot,
 ) -> Hot
-    requires { ⌜ Tables (now rows) (now parents) (now kinds) (now starts) (now slots) × (now sorts ≡ sortTable) ⌝ }
+    requires { ⌜ Tables (now rows) (now parents) (now kinds) (now starts) (now slots) × (now sorts ≡ sortTable) × (now silent ≡ silentColumn) ⌝ }
     requires { ⌜ Held h (tallyOf (now counts) (now stamps) (now occurrences) (now totals) [] []) ⌝ }
     requires { ⌜ (i ≤ length (now s)) × (i ≤ h .bytes) ⌝ }
     ensures { λ r. ⌜ Onward (now (s .entry)) (h .bytes - i) i h (now (counts .entry)) (now (stamps .entry)) (now (occurrences .entry)) (now (totals .entry)) r (now (counts .exit)) (now (stamps .exit)) (now (occurrences .exit)) (now (totals .exit)) ⌝ }
 {
-    if !begins(rows, kinds, starts, h) {
+    if !begins(rows, silent, kinds, starts, h) {
         return h;
     }
     let before = h.bytes - i as u64;
     let p = lines_past(
         rows,
         parents,
+        silent,
         kinds,
         starts,
         slots,

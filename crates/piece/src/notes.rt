@@ -1,7 +1,7 @@
 // What is noted where a line ends.
 ghost use mathlib.Core.Path.{_≡_};
 ghost use Prim.Native.Nat.{_+_, _≤_};
-ghost use Rattle.layout.specs.Rows.{rowCount, block};
+ghost use Rattle.layout.specs.Rows.{rowCount};
 ghost use Rattle.layout.specs.Packed.{rowNumbers, parentColumn};
 ghost use Rattle.rules.specs.Rules.{byteLimit};
 ghost use Rattle.line.specs.Machine.{Below, HotFit, entryOf, usedOf};
@@ -95,12 +95,11 @@ pub fn noted(
     }
 }
 
-// The total of a row's block is one more.
-pub fn raised(rows: &[[u64; 4]; ENTRIES], r: usize, totals: &mut [u64; BLOCKS])
-    requires { ⌜ (now rows ≡ rowNumbers) × (r ≤ rowCount) × Below (byteLimit + 1) (now totals) ⌝ }
-    ensures { λ _. ⌜ now (totals .exit) ≡ raisedOf (now (totals .entry)) (block r) ⌝ }
+// The total of a block is one more; of no block nothing is.
+pub fn raise(x: usize, totals: &mut [u64; BLOCKS])
+    requires { ⌜ Below (byteLimit + 1) (now totals) ⌝ }
+    ensures { λ _. ⌜ now (totals .exit) ≡ raisedOf (now (totals .entry)) x ⌝ }
 {
-    let x = block_at(rows, r) as usize;
     if x < BLOCKS {
         totals[x] += 1;
     }
@@ -113,7 +112,7 @@ pub fn totalled(rows: &[[u64; 4]; ENTRIES], h: Hot, b: u8, totals: &mut [u64; BL
     ensures { λ _. ⌜ now (totals .exit) ≡ totalsWith h b (now (totals .entry)) ⌝ }
 {
     if b == LF {
-        raised(rows, h.row, totals);
+        raise(block_at(rows, h.row) as usize, totals);
     }
 }
 

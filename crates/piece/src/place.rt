@@ -3,22 +3,20 @@ ghost use mathlib.Core.Bool.{true};
 ghost use mathlib.Core.Path.{_≡_};
 ghost use Prim.Native.Nat.{_≤_};
 ghost use Rattle.layout.specs.Rows.{rowCount};
-ghost use Rattle.layout.specs.Packed.{rowNumbers, packedKinds, startColumn};
+ghost use Rattle.layout.specs.Packed.{rowNumbers, packedKinds, silentColumn, startColumn};
+ghost use Rattle.layout.specs.Silent.{isSilent};
 ghost use Rattle.field.specs.Streaming.{emptyField};
 ghost use Rattle.line.specs.Machine.{HotFit};
-ghost use Rattle.piece.specs.Places.{isSilent, StartsLine, StartsField, Begins, indexOf, placeOf, lineStart, hotAt, Placed};
+ghost use Rattle.piece.specs.Places.{StartsLine, StartsField, Begins, indexOf, placeOf, lineStart, hotAt, Placed};
+use layout::blocks::BLOCKS;
 use layout::kinds::FIELDS;
-use layout::periods::PERIODS;
-use layout::periods::period_at;
 use layout::rows::ENTRIES;
 use layout::rows::ROWS;
 use layout::rows::fields_at;
-use layout::rows::level_at;
+use layout::silent::silent_at;
 use line::hot::CODE_KIND;
 use line::hot::CODE_ONLY;
 use line::hot::Hot;
-use line::order::DATA_LEVEL;
-use line::order::ROW_9900;
 use line::order::ROW_9999;
 use line::step::kind_of;
 
@@ -35,18 +33,12 @@ pub struct Place {
     pub index: usize,
 }
 
-// Whether the lines of a row say nothing: data lines, of a row that has no period, and not 9900.
-pub fn is_silent(rows: &[[u64; 4]; ENTRIES], r: usize) -> bool
-    requires { ⌜ (now rows ≡ rowNumbers) × (r ≤ rowCount) ⌝ }
+// Whether the lines of a row say nothing.
+pub fn is_silent(silent: &[usize; ENTRIES], r: usize) -> bool
+    requires { ⌜ (now silent ≡ silentColumn) × (r ≤ rowCount) ⌝ }
     ensures { λ t. ⌜ t ≡ isSilent r ⌝ }
 {
-    if level_at(rows, r) < DATA_LEVEL {
-        return false;
-    }
-    if period_at(rows, r) < PERIODS {
-        return false;
-    }
-    r != ROW_9900
+    silent_at(silent, r) < BLOCKS
 }
 
 // Whether nothing has come of the field at hand.
@@ -82,12 +74,13 @@ fn starts_line(h: Hot) -> bool
 // Whether a field after the first starts here, in a silent row, and the state agrees with the tables.
 fn starts_field(
     rows: &[[u64; 4]; ENTRIES],
+    silent: &[usize; ENTRIES],
     kinds: &[u32; FIELDS],
     starts: &[usize; ENTRIES],
     h: Hot,
 ) -> bool
     requires { ⌜ HotFit h ⌝ }
-    requires { ⌜ (now rows ≡ rowNumbers) × (now kinds ≡ packedKinds) × (now starts ≡ startColumn) ⌝ }
+    requires { ⌜ (now rows ≡ rowNumbers) × (now silent ≡ silentColumn) × (now kinds ≡ packedKinds) × (now starts ≡ startColumn) ⌝ }
     ensures { λ t. ⌜ (t ≡ true → StartsField h) ⌝ }
 {
     if h.bars < 2 {
@@ -100,7 +93,7 @@ fn starts_field(
     if h.fields < h.bars {
         return false;
     }
-    if !is_silent(rows, r) {
+    if !is_silent(silent, r) {
         return false;
     }
     kind_of(rows, kinds, starts, r, h.bars) == h.kind
@@ -109,12 +102,13 @@ fn starts_field(
 // Whether the state is that of a place.
 pub fn begins(
     rows: &[[u64; 4]; ENTRIES],
+    silent: &[usize; ENTRIES],
     kinds: &[u32; FIELDS],
     starts: &[usize; ENTRIES],
     h: Hot,
 ) -> bool
     requires { ⌜ HotFit h ⌝ }
-    requires { ⌜ (now rows ≡ rowNumbers) × (now kinds ≡ packedKinds) × (now starts ≡ startColumn) ⌝ }
+    requires { ⌜ (now rows ≡ rowNumbers) × (now silent ≡ silentColumn) × (now kinds ≡ packedKinds) × (now starts ≡ startColumn) ⌝ }
     ensures { λ t. ⌜ (t ≡ true → Begins h) ⌝ }
 {
     if !is_fresh(h) {
@@ -123,7 +117,7 @@ pub fn begins(
     if h.bars == 0 {
         return starts_line(h);
     }
-    starts_field(rows, kinds, starts, h)
+    starts_field(rows, silent, kinds, starts, h)
 }
 
 // Where the kind of the field at hand stands in the table of kinds.

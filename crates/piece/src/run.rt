@@ -2,6 +2,7 @@
 ghost use mathlib.Core.List.{[]};
 ghost use mathlib.Core.Path.{_≡_};
 ghost use Prim.Native.Nat.{_+_};
+ghost use Rattle.layout.specs.Packed.{silentColumn};
 ghost use Rattle.rules.specs.Rules.{byteLimit};
 ghost use Rattle.whole.specs.Whole.{sortTable};
 ghost use Rattle.line.specs.Machine.{Below, HotFit, Tables};
@@ -104,6 +105,7 @@ fn judged(
 fn judge_all(
     rows: &[[u64; 4]; ENTRIES],
     parents: &[usize; ENTRIES],
+    silent: &[usize; ENTRIES],
     kinds: &[u32; FIELDS],
     starts: &[usize; ENTRIES],
     slots: &[usize; SLOTS],
@@ -112,7 +114,7 @@ fn judge_all(
     tally: Tally,
     piece: &[u8],
 ) -> Checked
-    requires { ⌜ Tables (now rows) (now parents) (now kinds) (now starts) (now slots) × (now sorts ≡ sortTable) ⌝ }
+    requires { ⌜ Tables (now rows) (now parents) (now kinds) (now starts) (now slots) × (now sorts ≡ sortTable) × (now silent ≡ silentColumn) ⌝ }
     requires { ⌜ Held h0 tally ⌝ }
     ensures { λ r. ⌜ r ≡ runOf h0 tally (now (piece .entry)) ⌝ }
 {
@@ -129,6 +131,7 @@ fn judge_all(
         h = lines_from(
             rows,
             parents,
+            silent,
             kinds,
             starts,
             slots,
@@ -179,6 +182,7 @@ pub fn run(h: Hot, tally: Tally, piece: &[u8]) -> Checked
 {
     let rows = row_table::table();
     let parents = layout::parents::table();
+    let silent = layout::silent::table();
     let kinds = layout::kinds::table();
     let starts = layout::kinds::starts();
     let slots = layout::codes::slots();
@@ -186,6 +190,7 @@ pub fn run(h: Hot, tally: Tally, piece: &[u8]) -> Checked
     judge_all(
         &rows,
         &parents,
+        &silent,
         &kinds,
         &starts,
         &slots,

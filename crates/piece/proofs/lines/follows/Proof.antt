@@ -5,7 +5,7 @@ use Prim.Native.Nat.{ℕ}
 use Rattle.rules.proofs.TestLaws.{both}
 use Rattle.field.proofs.Picks.{thus, thus-yes}
 use Rattle.line.specs.Machine.{hangsOf, standsOf}
-use Rattle.piece.specs.Places.{isSilent}
+use Rattle.layout.specs.Silent.{isSilent}
 use Rattle.piece.proofs.PlaceLaws.{silent-data, silent-0000, silent-9999, silent-opening, silent-closing}
 use Rattle.piece.proofs.lines.follows.Statement.{statement}
 use Rattle.piece.proofs.lines.follows.Tie as tie
@@ -32,7 +32,7 @@ hangs-requires c κs =
     let first = c .before .before in
     let start = first .before .before in
     let p = start .pre in
-    (p .0, p .1, p .2, p .3, silent-data (start .args .r) (thus-yes _ _ (first .before .is-silent .ensures) (first .if1 .left)))
+    (p .0, p .1, p .3, p .4, silent-data (start .args .r) (thus-yes _ _ (first .before .is-silent .ensures) (first .if1 .left)))
 
 returns-3 : tie.Need-returns-3
 returns-3 c = λ e. both e refl

@@ -27,23 +27,23 @@ returns-2 c =
     let start = c .before .before .before .before .before in
     stays _ _ _ (start .args .p) (start .pre .1 .0)
 
-add-t13 : tie.Need-add-t13
-add-t13 c = search needs
+add-t14 : tie.Need-add-t14
+add-t14 c = search needs
 
-mul-t14 : tie.Need-mul-t14
-mul-t14 c = search needs
+mul-t15 : tie.Need-mul-t15
+mul-t15 c = search needs
 
-element-copy-out-t17 : tie.Need-element-copy-out-t17
-element-copy-out-t17 c = search needs
+element-copy-out-t18 : tie.Need-element-copy-out-t18
+element-copy-out-t18 c = search needs
 
-add-t18 : tie.Need-add-t18
-add-t18 c =
+add-t19 : tie.Need-add-t19
+add-t19 c =
     let asked = c .before .before in
     let coded = asked .before .before in
     let start = coded .before .before in
     let r = coded .row-from .result in
     let known = silent-row r (asked .follows .ensures (not-false _ (c .before .if2 .left)) .silent) in
-    omega (arith, kind-within (start .args .starts .now) r 2 (start .pre .0 .2) known (omega arith) (fields-two r known))
+    omega (arith, kind-within (start .args .starts .now) r 2 (start .pre .0 .3) known (omega arith) (fields-two r known))
 
 returns-3 : tie.Need-returns-3
 returns-3 c =
@@ -54,7 +54,7 @@ returns-3 c =
     let r = coded .row-from .result in
     let follows = asked .follows .ensures (not-false _ (c .before .if2 .left)) in
     let known = silent-row r (follows .silent) in
-    let begins : getD (start .args .starts .now) r 0 ≡ rowStart r = rw (start .pre .0 .2) (start-entry r (omega arith)) in
+    let begins : getD (start .args .starts .now) r 0 ≡ rowStart r = rw (start .pre .0 .3) (start-entry r (omega arith)) in
     let head = coded .row-from .ensures .1 known in
     rw begins
     (over-head _ _ _ (start .args .p) (p .0) (λ k. coded .before .shared-slice-known .given k .fits) (p .3) (p .1) r follows
@@ -68,8 +68,8 @@ head-past-spec =
     returns
     follows-requires
     returns-2
-    add-t13
-    mul-t14
-    element-copy-out-t17
-    add-t18
+    add-t14
+    mul-t15
+    element-copy-out-t18
+    add-t19
     returns-3)

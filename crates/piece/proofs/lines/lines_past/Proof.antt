@@ -1,23 +1,24 @@
 use Prim.Native.Nat.{_+_, _-_, _<_}
 use borrow.Author.Needs.{needs}
 use borrow.Author.Tests.{not-false}
-use mathlib.Core.Path.{_≡_}
+use mathlib.Core.Path.{_≡_, _∙_}
 use native.Mathlib.Omega.{arith}
 use lib.ListN.{length}
 use Rattle.layout.specs.Rows.{rowCount}
 use Rattle.piece.specs.Piece.{AllBytes}
 use Rattle.piece.specs.Places.{safeOf, Along}
 use Rattle.piece.proofs.RunLaws.{held-small}
+use Rattle.piece.proofs.PlaceLaws.{silent-block}
 use Rattle.piece.proofs.AlongLaws.{safe-length, safe-limit, place-fit, place-within, along-head, along-fields, along-end}
 use Rattle.piece.proofs.lines.lines_past.Statement.{statement}
 use Rattle.piece.proofs.lines.lines_past.Tie as tie
 
 abbrev Inv-loop : tie.InvT-loop
-Inv-loop rows parents kinds starts slots sorts counts₀ stamps₀ occurrences₀ totals₀ s before safe p₀ counts stamps occurrences totals p =
+Inv-loop rows parents silent kinds starts slots sorts counts₀ stamps₀ occurrences₀ totals₀ s before safe p₀ counts stamps occurrences totals p =
     Along s before p₀ counts₀ stamps₀ occurrences₀ totals₀ p counts stamps occurrences totals
 
 abbrev μ-loop : tie.MeasureT-loop
-μ-loop rows parents kinds starts slots sorts counts₀ stamps₀ occurrences₀ totals₀ s before safe p₀ counts stamps occurrences totals p =
+μ-loop rows parents silent kinds starts slots sorts counts₀ stamps₀ occurrences₀ totals₀ s before safe p₀ counts stamps occurrences totals p =
     safe - p .at
 
 safe-of-requires : tie.Need-safe-of-requires Inv-loop μ-loop
@@ -35,7 +36,7 @@ begun-requires c κs =
     let tables = start .pre .0 .0 in
     let inv = at .loop .inv in
     let fits = rw (← safe .safe-of .ensures) at (safe-length (start .args .before) (length (start .args .s .now))) in (
-      (tables .rows, tables .parents, tables .starts, tables .slots),
+      (tables .rows, tables .parents, start .pre .0 .2, tables .starts, tables .slots),
       (inv .placed, place-fit _ _ (inv .held .fit) .last, omega (arith, fits, turn .if1 .taken)),
     )
 
@@ -113,17 +114,18 @@ counted-requires c κs =
     let small = held-small _ _ (at .loop .inv .held) in
     ((start .pre .0 .0 .parents, begun .begun .ensures .placed .row), (small .0, small .1))
 
-raised-requires : tie.Need-raised-requires Inv-loop μ-loop
-raised-requires c κs =
-    let begun = c .before .before .before .before .before .before .before .before .before .before in
-    let at = begun .before .before .before .before .before in
-    let start = at .before .before .before in
-    let small = held-small _ _ (at .loop .inv .held) in
-    (start .pre .0 .0 .rows, begun .begun .ensures .placed .row, small .2)
+silent-at-requires : tie.Need-silent-at-requires Inv-loop μ-loop
+silent-at-requires c κs =
+    let begun = c .before .before .before .before .before .before .before .before .before in
+    let start = begun .before .before .before .before .before .before .before .before in
+    (start .pre .0 .2, begun .begun .ensures .placed .row)
+
+raise-requires : tie.Need-raise-requires Inv-loop μ-loop
+raise-requires c κs = held-small _ _ (c .before .before .before .before .before .before .before .before .before .before .before .before .before .before .before .before .loop .inv .held) .2
 
 end-past-requires : tie.Need-end-past-requires Inv-loop μ-loop
 end-past-requires c κs =
-    let passed = c .before .before .before .before .before .before .before .before .before in
+    let passed = c .before .before .before .before .before .before .before .before .before .before in
     let begun = passed .before .before in
     let turn = begun .before .before .before in
     let at = turn .before .before in
@@ -139,7 +141,7 @@ end-past-requires c κs =
 
 loop-less : tie.Need-loop-less Inv-loop μ-loop
 loop-less c =
-    let left = c .before .before .before .before .before .before .before .before in
+    let left = c .before .before .before .before .before .before .before .before .before in
     let passed = left .before .before in
     let begun = passed .before .before in
     let turn = begun .before .before .before in
@@ -149,7 +151,8 @@ loop-less c =
 loop-again : tie.Need-loop-again Inv-loop μ-loop
 loop-again c =
     let raised = c .before in
-    let counted = raised .before .before in
+    let told = raised .before .before in
+    let counted = told .before in
     let left = counted .before .before .before .before .before in
     let passed = left .before .before in
     let begun = passed .before .before in
@@ -164,7 +167,8 @@ loop-again c =
     let row : passed .fields-past .result .row < rowCount = omega (arith, headed .placed .row, passed .before .if2 .left, fields .row) in
     let ends = left .before .ends-here .ensures (not-false _ (left .if3 .left)) in
     let e = counted .counted .ensures in
-    rw (c .end-past .ensures, e .0, e .1 .0, e .1 .1, raised .raised .ensures, ← fields .row)
+    let block = told .silent-at .ensures ∙ silent-block _ (headed .placed .silent (omega (arith, row, fields .row))) in
+    rw (c .end-past .ensures, e .0, e .1 .0, e .1 .1, raised .raise .ensures, block, ← fields .row)
     (along-end known fielded (omega (arith, here)) (fields .near) row ends)
 
 returns-3 : tie.Need-returns-3 Inv-loop μ-loop
@@ -185,7 +189,8 @@ lines-past-spec =
     returns-2
     add-counted
     counted-requires
-    raised-requires
+    silent-at-requires
+    raise-requires
     end-past-requires
     loop-less
     loop-again

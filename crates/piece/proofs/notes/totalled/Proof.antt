@@ -4,16 +4,21 @@ use Rattle.piece.specs.Piece.{totalsWith}
 use Rattle.piece.proofs.notes.totalled.Statement.{statement}
 use Rattle.piece.proofs.notes.totalled.Tie as tie
 
-raised-requires : tie.Need-raised-requires
-raised-requires c κs = search needs
+block-at-requires : tie.Need-block-at-requires
+block-at-requires c κs = search needs
+
+raise-requires : tie.Need-raise-requires
+raise-requires c κs = search needs
 
 returns : tie.Need-returns
 unfolding totalsWith
-returns c = rw (eq-eqb _ _ (c .before .before .if1 .taken)) (c .raised .ensures)
+returns c =
+    let found = c .before .before in
+    rw (eq-eqb _ _ (found .before .if1 .taken), ← found .block-at .ensures) (c .raise .ensures)
 
 returns-2 : tie.Need-returns-2
 unfolding totalsWith
 returns-2 c = rw (ne-eqb _ _ (c .if1 .left))
 
 pub totalled-spec : {M : Type 1} → statement M
-totalled-spec = tie.close (tie.spec raised-requires returns returns-2)
+totalled-spec = tie.close (tie.spec block-at-requires raise-requires returns returns-2)

@@ -10,12 +10,12 @@ use Rattle.piece.proofs.run.judge_all.Statement.{statement}
 use Rattle.piece.proofs.run.judge_all.Tie as tie
 
 abbrev Inv-loop : tie.InvT-loop
-Inv-loop rows parents kinds starts slots sorts piece h₀ counts₀ stamps₀ occurrences₀ totals₀ stated₀ pairs₀ before i₀ h counts stamps occurrences totals stated pairs i =
+Inv-loop rows parents silent kinds starts slots sorts piece h₀ counts₀ stamps₀ occurrences₀ totals₀ stated₀ pairs₀ before i₀ h counts stamps occurrences totals stated pairs i =
     Going piece h₀ (tallyOf counts₀ stamps₀ occurrences₀ totals₀ stated₀ pairs₀) h
     (tallyOf counts stamps occurrences totals stated pairs) i
 
 abbrev μ-loop : tie.MeasureT-loop
-μ-loop rows parents kinds starts slots sorts piece h₀ counts₀ stamps₀ occurrences₀ totals₀ stated₀ pairs₀ before i₀ h counts stamps occurrences totals stated pairs i =
+μ-loop rows parents silent kinds starts slots sorts piece h₀ counts₀ stamps₀ occurrences₀ totals₀ stated₀ pairs₀ before i₀ h counts stamps occurrences totals stated pairs i =
     length piece - i
 
 loop-holds : tie.Need-loop-holds Inv-loop μ-loop
