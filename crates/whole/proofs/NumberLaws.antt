@@ -9,7 +9,6 @@ use native.Mathlib.Omega.{arith}
 use lib.Dec.{eqb, ltb}
 use lib.ListN.{length, getD, drop}
 use borrow.Author.Tests.{le-ltb, lt-ltb, eq-eqb, ne-eqb, not-false}
-use Rattle.layout.specs.Pick.{pick}
 use Rattle.layout.specs.Packed.{sizeUnit, lineCodeClass, nClass, nAnyClass, decimalsClass, dateClass, cnpjClass, cpfClass}
 use Rattle.rules.specs.Bytes.{bar}
 use Rattle.rules.specs.Fields.{isDigit, isDate, comma}
@@ -18,7 +17,7 @@ use Rattle.field.specs.declared.bytes.Field.{Field}
 use Rattle.field.specs.Streaming.{cap, emptyField, valueWith, digitWith, decimalWith, digitFits, commaFits, withByte, faultOf}
 use Rattle.field.specs.Streaming.{emptyFault, isTextClass, numberFault, rightForm, rightSize, isExact, digitsFault, contentFault}
 use Rattle.field.specs.Digits.{cnpjRight, cpfRight}
-use Rattle.whole.specs.Whole.{ends, sortOf, numberAt, dateKind, cnpjKind, cpfKind, longest, Whole, Past}
+use Rattle.whole.specs.Whole.{ends, numberAt, dateKind, cnpjKind, cpfKind, longest, Whole, Past}
 use Rattle.whole.specs.Word.{leading}
 use Rattle.whole.proofs.SortLaws.{digit-bounds}
 use Rattle.whole.proofs.WordLaws.{leading-le}
@@ -38,21 +37,6 @@ leading-digits (suc n) s i (suc k) l =
     split (isDigit (getD s i 0))
     (λ e. rw on (leading-digits n s (suc i) k (omega (arith, rw e at l))))
     (λ e. absurd (omega (arith, rw e at l)))
-
--- digits by their sorts
-sort-digit : (b : ℕ) → sortOf b ≡ 0 → isDigit b ≡ true
-unfolding sortOf
-sort-digit b = go (ends b) (isDigit b)
-  where
-    go : (t u : Bool) → _≡_ {A = ℕ} (pick t 2 (pick u 0 1)) 0 → u ≡ true
-    go true u e = absurd (omega arith)
-    go false true e = refl
-    go false false e = absurd (omega arith)
-
-pub two-digits : (s : List ℕ) (i : ℕ) → sortOf (getD s i 0) ≡ 0 → sortOf (getD s (i + 1) 0) ≡ 0 → Digits s i 2
-two-digits s i p q zero l = rw (add-zero i) (sort-digit _ p)
-two-digits s i p q (suc zero) l = sort-digit _ q
-two-digits s i p q (suc (suc k)) l = absurd (omega arith)
 
 digit-plain : (b : ℕ) → isDigit b ≡ true → ends b ≡ false
 unfolding ends

@@ -9,7 +9,7 @@ use Rattle.rules.proofs.TestLaws.{split, and-left, and-right}
 use Rattle.whole.specs.Whole.{ends, sortOf}
 
 -- a byte of another sort does not end a field
-pub not-stop : (b : ℕ) → (sortOf b ≡ 2 → ⊥) → ends b ≡ false
+pub not-stop : (b : ℕ) → (sortOf b ≡ 1 → ⊥) → ends b ≡ false
 unfolding sortOf
 not-stop b n = split (ends b) (λ t. absurd (n (rw t))) (λ t. t)
 

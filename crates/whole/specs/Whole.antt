@@ -9,7 +9,6 @@ use Rattle.layout.specs.Pick.{pick}
 use Rattle.layout.specs.Lists.{tabulate}
 use Rattle.layout.specs.Packed.{sizeUnit, cClass, decimalsClass, dateClass, cnpjClass, cpfClass}
 use Rattle.rules.specs.Bytes.{bar}
-use Rattle.rules.specs.Fields.{isDigit}
 use Rattle.field.specs.Streaming.{emptyField, withByte, faultOf}
 use Rattle.field.specs.declared.bytes.Field.{Field}
 
@@ -17,9 +16,9 @@ use Rattle.field.specs.declared.bytes.Field.{Field}
 unfoldable pub ends : ℕ → Bool
 ends b = ltb b 32 || eqb b bar
 
--- 2 for such a byte, 0 for a digit, 1 for any other
+-- 1 for such a byte, 0 for any other
 unfoldable pub sortOf : ℕ → ℕ
-sortOf b = pick (ends b) 2 (pick (isDigit b) 0 1)
+sortOf b = pick (ends b) 1 0
 
 unfoldable pub sortTable : List ℕ
 sortTable = tabulate 256 sortOf

@@ -21,7 +21,7 @@ fn wide(b: u8) -> u64
 }
 
 // Four bytes as a number, the first lowest.
-fn four(s: &[u8], i: usize) -> u64
+pub fn four(s: &[u8], i: usize) -> u64
     requires { ⌜ i + 4 ≤ length (now s) ⌝ }
     ensures { λ r. ⌜ (r ≡ wordOf 4 (now (s .entry)) i) × (r < 4294967296) ⌝ }
 {

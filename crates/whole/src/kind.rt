@@ -64,7 +64,7 @@ pub fn field_past(sorts: &[u8; BYTES], s: &[u8], i: usize, kind: u64, safe: usiz
     ensures { λ j. ⌜ (0 < j → Past kind (now (s .entry)) i (safe + longest - 1) j × (isQuick kind ≡ true)) ⌝ }
 {
     if kind == AMOUNT {
-        return amount_past(sorts, s, i);
+        return amount_past(s, i);
     }
     let class = kind % SIZE_UNIT;
     if class == CLASS_C {

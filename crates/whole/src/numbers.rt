@@ -6,17 +6,24 @@ ghost use Rattle.layout.specs.Packed.{sizeUnit, nClass, nAnyClass, decimalsClas
 ghost use Rattle.rules.specs.Bytes.{bar};
 ghost use Rattle.rules.specs.Fields.{comma};
 ghost use Rattle.whole.specs.Word.{leading};
-ghost use Rattle.whole.specs.Whole.{sortTable, sortOf, numberAt, amountKind, dateKind, cnpjKind, cpfKind, longest, Past};
+ghost use Rattle.whole.specs.Whole.{numberAt, amountKind, dateKind, cnpjKind, cpfKind, longest, Past};
 use crate::bar::bar_past;
 use crate::digits::digits_from;
-use crate::sorts::BYTES;
-use crate::sorts::DIGIT;
-use crate::sorts::sort_of;
+use crate::digits::four;
 use field::check_digits::is_cnpj;
 use field::check_digits::is_cpf;
 use field::date::is_date;
 
 const COMMA: u8 = 44;
+
+// A comma, two zeros and a bar as one number, the first byte lowest.
+const CENTS: u64 = 0x7c30302c;
+
+// Its bits that any two digits have there: all but their low halves.
+const FIXED: u64 = 0xfff0f0ff;
+
+// So much is added to both digits: those bits stay as they are up to 9.
+const SIX_EACH: u64 = 0x00060600;
 
 // So many digits are looked at in one turn.
 const TURN: usize = 8;
@@ -28,33 +35,28 @@ const CNPJ_SIZE: usize = 14;
 
 const CPF_SIZE: usize = 11;
 
-// Two decimals, whose comma should stand at c.
-fn cents_past(sorts: &[u8; BYTES], s: &[u8], c: usize) -> usize
-    requires { ⌜ (now sorts ≡ sortTable) × (c + 4 ≤ length (now s)) ⌝ }
-    ensures { λ j. ⌜ (0 < j → (j ≡ c + 4) × (getD (now (s .entry)) c 0 ≡ comma) × (sortOf (getD (now (s .entry)) (c + 1) 0) ≡ 0) × (sortOf (getD (now (s .entry)) (c + 2) 0) ≡ 0) × (getD (now (s .entry)) (c + 3) 0 ≡ bar)) ⌝ }
+// Two decimals, whose comma should stand at c, and their bar: four bytes are looked at as one number.
+fn cents_past(s: &[u8], c: usize) -> usize
+    requires { ⌜ c + 4 ≤ length (now s) ⌝ }
+    ensures { λ j. ⌜ (0 < j → (j ≡ c + 4) × (getD (now (s .entry)) c 0 ≡ comma) × (leading 2 (now (s .entry)) (c + 1) ≡ 2) × (getD (now (s .entry)) (c + 3) 0 ≡ bar)) ⌝ }
 {
-    if s[c] != COMMA {
+    let x = four(s, c);
+    if (((x ^ CENTS) | ((x + SIX_EACH) ^ CENTS)) & FIXED) != 0 {
         return 0;
     }
-    if sort_of(sorts, s[c + 1]) != DIGIT {
-        return 0;
-    }
-    if sort_of(sorts, s[c + 2]) != DIGIT {
-        return 0;
-    }
-    bar_past(s, c + 3)
+    c + 4
 }
 
 // An amount with two decimals and at most 8 digits before them.
-pub fn amount_past(sorts: &[u8; BYTES], s: &[u8], i: usize) -> usize
-    requires { ⌜ (now sorts ≡ sortTable) × (i + longest ≤ length (now s)) ⌝ }
+pub fn amount_past(s: &[u8], i: usize) -> usize
+    requires { ⌜ i + longest ≤ length (now s) ⌝ }
     ensures { λ j. ⌜ (0 < j → Past amountKind (now (s .entry)) i (i + longest) j) ⌝ }
 {
     let k = digits_from(s, i);
     if k == 0 {
         return bar_past(s, i);
     }
-    cents_past(sorts, s, i + k)
+    cents_past(s, i + k)
 }
 
 // Past the bar at e, if there were as many digits as there should be.

@@ -1,14 +1,12 @@
-// The sorts of bytes: a digit, any other byte of a field, and one that ends it.
+// The sorts of bytes: one that a field may hold, and one that ends it.
 ghost use mathlib.Core.Path.{_≡_};
 ghost use Rattle.whole.specs.Whole.{sortOf, sortTable};
 
 pub const BYTES: usize = 256;
 
-pub const DIGIT: u8 = 0;
+const OTHER: u8 = 0;
 
-const OTHER: u8 = 1;
-
-pub const STOP: u8 = 2;
+pub const STOP: u8 = 1;
 
 // The sort of each byte. The table is mentioned here alone: a caller reads it once and hands it on.
 pub fn sorts() -> [u8; BYTES]
@@ -73,16 +71,16 @@ const SORTS: [u8; BYTES] = [
     OTHER,
     OTHER,
     OTHER,
-    DIGIT,
-    DIGIT,
-    DIGIT,
-    DIGIT,
-    DIGIT,
-    DIGIT,
-    DIGIT,
-    DIGIT,
-    DIGIT,
-    DIGIT,
+    OTHER,
+    OTHER,
+    OTHER,
+    OTHER,
+    OTHER,
+    OTHER,
+    OTHER,
+    OTHER,
+    OTHER,
+    OTHER,
     OTHER,
     OTHER,
     OTHER,

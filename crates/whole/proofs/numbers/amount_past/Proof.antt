@@ -4,7 +4,7 @@ use Prim.Native.Nat.{_+_}
 use native.Mathlib.Omega.{arith}
 use Rattle.whole.specs.Whole.{amountKind}
 use Rattle.whole.proofs.WordLaws.{leading-le}
-use Rattle.whole.proofs.NumberLaws.{two-digits, empty-past, decimal-past, decimal-number}
+use Rattle.whole.proofs.NumberLaws.{leading-digits, empty-past, decimal-past, decimal-number}
 use borrow.Author.Needs.{needs}
 use Rattle.whole.proofs.numbers.amount_past.Statement.{statement}
 use Rattle.whole.proofs.numbers.amount_past.Tie as tie
@@ -28,7 +28,7 @@ add-cents-past c =
 cents-past-requires : tie.Need-cents-past-requires
 cents-past-requires c κs =
     let a = c .before .before .before .args in
-    (search needs, omega (arith, c .before .digits-from .ensures, leading-le 8 (a .s .now) (a .i)))
+    omega (arith, c .before .digits-from .ensures, leading-le 8 (a .s .now) (a .i))
 
 returns-2 : tie.Need-returns-2
 returns-2 c = λ more.
@@ -37,11 +37,10 @@ returns-2 c = λ more.
     let s = a .s .now in
     let k = counted .digits-from .result in
     let past = c .cents-past .ensures more in
-    let second : a .i + k + 1 + 1 ≡ a .i + k + 2 = omega arith in
     let last : a .i + k + 1 + 2 ≡ a .i + k + 3 = omega arith in
     decimal-past (decimal-number amountKind 2 refl refl) s (a .i) k (omega arith) (counted .digits-from .ensures)
-    (omega (arith, c .before .if1 .left)) (past .1) (omega arith) (two-digits s (a .i + k + 1) (past .2) (rw second (past .3)))
-    (omega (arith, past .0), rw last (past .4))
+    (omega (arith, c .before .if1 .left)) (past .1) (omega arith) (rw (past .2) at (leading-digits 2 s (a .i + k + 1)))
+    (omega (arith, past .0), rw last (past .3))
 
 pub amount-past-spec : {M : Type 1} → statement M
 amount-past-spec =
