@@ -5,10 +5,10 @@ use Rattle.sefcheck.proofs.check_input.Statement.{statement}
 use Rattle.sefcheck.proofs.check_input.Tie as tie
 
 abbrev Inv-loop : tie.InvT-loop
-Inv-loop blocks state₀ block₀ turns₀ t7 state block turns = 65536 ≡ length block
+Inv-loop size blocks state₀ block₀ turns₀ t8 state block turns = 65536 ≡ length block
 
 abbrev μ-loop : tie.MeasureT-loop
-μ-loop blocks state₀ block₀ turns₀ t7 state block turns = turns
+μ-loop size blocks state₀ block₀ turns₀ t8 state block turns = turns
 
 start-requires : tie.Need-start-requires Inv-loop μ-loop
 start-requires c κs = search needs
@@ -19,11 +19,11 @@ large-buffer-requires c κs = search needs
 loop-holds : tie.Need-loop-holds Inv-loop μ-loop
 loop-holds c = search needs
 
-slice-aggregate-read : tie.Need-slice-aggregate-read Inv-loop μ-loop
-slice-aggregate-read c = search needs
+slice-aggregate-read-piece : tie.Need-slice-aggregate-read-piece Inv-loop μ-loop
+slice-aggregate-read-piece c = search needs
 
-read-requires : tie.Need-read-requires Inv-loop μ-loop
-read-requires c κs = search needs
+read-piece-requires : tie.Need-read-piece-requires Inv-loop μ-loop
+read-piece-requires c κs = search needs
 
 slice-aggregate-fail : tie.Need-slice-aggregate-fail Inv-loop μ-loop
 slice-aggregate-fail c = search needs
@@ -76,8 +76,8 @@ check-input-spec =
     start-requires
     large-buffer-requires
     loop-holds
-    slice-aggregate-read
-    read-requires
+    slice-aggregate-read-piece
+    read-piece-requires
     slice-aggregate-fail
     fail-requires
     returns

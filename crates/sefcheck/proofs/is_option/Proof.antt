@@ -1,13 +1,13 @@
 use borrow.Author.Needs.{needs}
 use Prim.Native.Nat.{_≤_, _-_}
-use Rattle.sefcheck.proofs.is_blocks.Statement.{statement}
-use Rattle.sefcheck.proofs.is_blocks.Tie as tie
+use Rattle.sefcheck.proofs.is_option.Statement.{statement}
+use Rattle.sefcheck.proofs.is_option.Tie as tie
 
 abbrev Inv-loop : tie.InvT-loop
-Inv-loop word blocks i₀ i = i ≤ 8
+Inv-loop word option i₀ i = i ≤ 8
 
 abbrev μ-loop : tie.MeasureT-loop
-μ-loop word blocks i₀ i = 8 - i
+μ-loop word option i₀ i = 8 - i
 
 loop-holds : tie.Need-loop-holds Inv-loop μ-loop
 loop-holds c = search needs
@@ -33,8 +33,8 @@ loop-again c = search needs
 returns-2 : tie.Need-returns-2 Inv-loop μ-loop
 returns-2 c = search needs
 
-pub is-blocks-spec : {M : Type 1} → statement M
-is-blocks-spec =
+pub is-option-spec : {M : Type 1} → statement M
+is-option-spec =
     tie.close
     (tie.spec
     Inv-loop
