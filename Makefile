@@ -16,7 +16,7 @@ compare: kit cargo
 exchange: kit cargo
 	@tools/exchange $(SEED) $(FILES)
 
-# Executed instructions per byte beside the C peer's. Not part of the tests.
+# Executed instructions a byte beside the C peer's, and the bounds they are held to: ends with 1 if one is broken. Not part of the tests.
 bench: kit
 	@[ -x target/bin/sefcheck ] || rt check sefcheck
 	@bench/bench.sh

@@ -1,6 +1,7 @@
 /*
- * make_file SEED BYTES: writes an accepted file of about so many bytes to
- * standard output. The same seed and size always give the same file.
+ * make_file SEED BYTES [worst]: writes an accepted file of about so many bytes
+ * to standard output. The same seed and size always give the same file. The
+ * worst file has the fields that a checker is slowest at: see worst_file().
  *
  * A line is written from a pattern: its code, then a word for each field.
  * The word is "-" for an empty field, "=x" for the text x, or a letter for a
@@ -93,6 +94,14 @@ static void put_amount(int decimals)
     put_number(below(ANY_OF(limits)), 1);
     put(",");
     put_digits(decimals);
+}
+
+/* Of more digits before the comma than one word of eight bytes has, but as short as can be. */
+static void put_long_amount(void)
+{
+    put_digits(9);
+    put(",");
+    put_digits(2);
 }
 
 /*
@@ -248,7 +257,9 @@ static bool number_content(char letter)
     case 'q': put_digits(9); return true;
     case 'u': put_first_day(); return true;
     case 'v': put_last_day(); return true;
+    case 'w': put_long_amount(); return true;
     case 'x': put_checked(9, 11); return true;
+    case 'y': put_digits(17); return true;
     case 'z': put("0,000"); return true;
     default: return false;
     }
@@ -842,14 +853,8 @@ static void block_9(void)
     closing("9999", 0);
 }
 
-int main(int argc, char **argv)
+static void usual_file(uint64_t bytes)
 {
-    if (argc != 3) {
-        fputs("usage: make_file SEED BYTES\n", stderr);
-        return 2;
-    }
-    seed = strtoull(argv[1], NULL, 10);
-    uint64_t bytes = strtoull(argv[2], NULL, 10);
     uint64_t before_8 = bytes * 96 / 100; /* for blocks 0 to H: the rest is for block 8, and block 9 comes on top */
     block_0(before_8 * 18 / 100);
     block_c(before_8 * 62 / 100);
@@ -859,5 +864,88 @@ int main(int argc, char **argv)
     block_h(before_8);
     block_8(bytes);
     block_9();
+}
+
+/* --------------------------------------------------------- the worst file */
+
+/*
+ * A checker that passes right fields whole has to leave some to its steps,
+ * byte by byte: numbers with decimals that have more than 8 digits before the
+ * comma, numbers without a size that have more than 16, the dates of rows with
+ * periods and what 9900 lines state. The worst file has little else. Its long
+ * numbers are the shortest of their sort, so that there are many of them; it
+ * has as many periods as a row may have, and states each code again and again.
+ */
+#define MOST_PERIODS 64
+
+static void period_line(const char *start, unsigned number)
+{
+    char pattern[40];
+    snprintf(pattern, sizeof pattern, "%s =%02u%02u2012 =31122012", start, number % 28 + 1, number / 28 + 1);
+    line(pattern);
+}
+
+static void long_amounts(void)
+{
+    line("E330 B w w w w w w w w w w w w");
+}
+
+static void long_numbers(void)
+{
+    line("G030 =2D y y y y y w w w w");
+}
+
+/* A line for each period, and under it its part of the lines up to the end. */
+static void fill_periods(const char *start, uint64_t end, void (*group)(void))
+{
+    for (unsigned number = 0; number < MOST_PERIODS; number++) {
+        period_line(start, number);
+        fill(part(100 / (MOST_PERIODS - number), end), group);
+    }
+}
+
+/* All rounds state the same, so all is true. */
+static void statements_again(uint64_t end)
+{
+    unsigned before = codes;
+    uint64_t each = (before + 3) * UINT64_C(17), rounds = bytes_written + each < end ? (end - bytes_written) / each : 1;
+    for (uint64_t left = rounds; left > 0; left--) {
+        for (unsigned i = 0; i < before; i++)
+            statement(tallies[i].code, tallies[i].lines);
+        statement("9900", rounds * (before + 3));
+        statement("9990", 1);
+        statement("9999", 1);
+    }
+}
+
+static void worst_file(uint64_t bytes)
+{
+    taxpayer();
+    closing("0990", 0);
+    opening("E001 =0");
+    fill_periods("E300", bytes * 55 / 100, long_amounts);
+    closing("E990", 0);
+    opening("G001 =0");
+    fill_periods("G020 =0", bytes * 85 / 100, long_numbers);
+    closing("G990", 0);
+    opening("9001 =0");
+    statements_again(bytes);
+    closing("9990", 1);
+    lines_before_block = 0;
+    closing("9999", 0);
+}
+
+int main(int argc, char **argv)
+{
+    if (argc < 3 || argc > 4 || (argc == 4 && strcmp(argv[3], "worst") != 0)) {
+        fputs("usage: make_file SEED BYTES [worst]\n", stderr);
+        return 2;
+    }
+    seed = strtoull(argv[1], NULL, 10);
+    uint64_t bytes = strtoull(argv[2], NULL, 10);
+    if (argc == 4)
+        worst_file(bytes);
+    else
+        usual_file(bytes);
     return fflush(stdout) == 0 && !ferror(stdout) ? 0 : 2;
 }

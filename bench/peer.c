@@ -2,6 +2,13 @@
  * The checker's peer in C: reads a file in pieces, in one pass and in constant
  * memory, and says which rule of the rules document it breaks first.
  *
+ * It is as good C as we can write for this layout, for the proved checker to
+ * be measured by. Whole right lines and fields are passed at once, and their
+ * bytes are looked at eight at a time, as whole words: by sums and masks that
+ * mark digits and bytes that end a field, with no intrinsics but the count of
+ * a word's low zeros. Whatever is unusual, or cut by a piece's end, is judged
+ * byte by byte. No byte behind a piece is read.
+ *
  *     peer           reads standard input and prints the seven lines
  *     peer pieces    reads commands on standard input and answers each one
  *
@@ -32,6 +39,9 @@
 
 /* For what only a refused file comes to: kept out of the loops that all files go through. */
 #define RARE __attribute__((cold, noinline))
+
+/* For what is kept apart from its caller, so that each has the registers for its own. */
+#define APART __attribute__((noinline))
 
 #define MOST_BYTES UINT64_C(4294967295)
 #define LONGEST_PIECE 65536
@@ -199,10 +209,10 @@ static const uint8_t periodic[ROW_NONE] = {PERIODIC(PERIODIC_OF)};
 enum { BLOCK_0, BLOCK_C, BLOCK_E, BLOCK_F, BLOCK_G, BLOCK_H, BLOCK_8, BLOCK_9, BLOCK_NONE };
 static_assert(BLOCK_NONE == 8, "8 blocks");
 
-/* A code's four bytes as one number; the digits are the number's nibbles. */
+/* A code's four bytes as one number, the first lowest; the digits are the number's nibbles. */
 enum { AT_0 = '0', AT_C = 'C', AT_E = 'E', AT_F = 'F', AT_G = 'G', AT_H = 'H', AT_8 = '8', AT_9 = '9' };
-#define NIBBLES(n) (((n)&0xF00u) << 8 | ((n)&0x0F0u) << 4 | ((n)&0x00Fu))
-#define CODE_OF(block, number) ((uint32_t)AT_##block << 24 | 0x303030u | NIBBLES(0x##number##u))
+#define NIBBLES(n) (((n)&0xF00u) | ((n)&0x0F0u) << 12 | ((n)&0x00Fu) << 24)
+#define CODE_OF(block, number) ((uint32_t)AT_##block | 0x30303000u | NIBBLES(0x##number##u))
 
 struct row {
     uint32_t code;
@@ -217,7 +227,7 @@ struct row {
 static const struct row rows[] = {ROWS(ROW)};
 
 #define HAS_ITS_KINDS(block, number, fields, level, most, parent, role, kinds) \
-    static_assert(sizeof kinds == (fields - 1) * sizeof kinds[0], "a kind for each field but the first");
+    static_assert(sizeof kinds == fields * sizeof kinds[0], "a kind for each field but the first, and the stop");
 ROWS(HAS_ITS_KINDS)
 #define AND_FIELDS(block, number, fields, ...) +fields
 static_assert(ROWS(AND_FIELDS) == 1238, "1238 fields");
@@ -226,9 +236,9 @@ static_assert(ROWS(AND_FIELDS) == 1238, "1238 fields");
  * From code to row without a search. No two codes have the same slot: if two
  * had, the compiler would warn of a slot filled twice (-Wextra).
  */
-#define SLOT(code) ((uint32_t)((code)*0x162954F1u) >> 23)
-#define FILL(block, number, ...) [SLOT(CODE_OF(block, number))] = ROW_##block##number,
-static const uint8_t slots[512] = {ROWS(FILL)};
+#define SLOT(code) ((uint32_t)((code)*0xCFA412F7u) >> 23)
+#define FILL(block, number, ...) [SLOT(CODE_OF(block, number))] = &rows[ROW_##block##number],
+static const struct row *const slots[512] = {ROWS(FILL)};
 
 /* Bytes that end the bytes of a field: 0 to 31 and the bar. */
 static const bool special[256] = {
@@ -246,21 +256,22 @@ static const bool digit[256] = {
 
 /* Where the next byte comes. In a field after the first the stage is its form. */
 enum stage {
+    IN_AMOUNT = AMOUNT,
     IN_TEXT = TEXT,
-    IN_FIXED = FIXED,
     IN_DIGITS = DIGITS,
     IN_DECIMALS = DECIMALS,
-    IN_MARK = MARK,
     IN_DATE = DATE,
+    IN_CHECKED = CHECKED,
+    IN_FIXED = FIXED,
+    IN_MARK = MARK,
     IN_FIRST_DAY = FIRST_DAY,
     IN_LAST_DAY = LAST_DAY,
-    IN_CHECKED = CHECKED,
     IN_COUNT = COUNT,
     IN_NAMED = NAMED,
     IN_STATED = STATED,
+    LINE_END = NO_FIELD,
     LINE_START,
     CODE,
-    LINE_END,
     LINE_FEED,
     FILE_END,
     REFUSED,
@@ -289,7 +300,6 @@ struct checker {
 
     /* the line in hand, its open lines by level, and its block */
     const struct row *row;
-    uint32_t left; /* fields to end, the one in hand included */
     int level;
     struct { uint32_t row, line; } open[LEVELS];
     uint64_t mark;  /* field 2 of its opening */
@@ -330,22 +340,61 @@ static enum stage refuse(struct checker *c, unsigned number, uint32_t field)
     return REFUSED;
 }
 
-/* ------------------------------------------- field 1: may the line stand? */
+/* ------------------------------------------------------------ whole words */
 
-static uint32_t four_bytes(const uint8_t *at)
+typedef const uint8_t *place;
+
+static_assert(__BYTE_ORDER__ == __ORDER_LITTLE_ENDIAN__, "a word's first byte is its lowest");
+
+static inline uint32_t four_bytes(place at)
 {
-    return (uint32_t)at[0] << 24 | (uint32_t)at[1] << 16 | (uint32_t)at[2] << 8 | at[3];
+    uint32_t word;
+    memcpy(&word, at, sizeof word);
+    return word;
 }
+
+static inline uint64_t eight_bytes(place at)
+{
+    uint64_t word;
+    memcpy(&word, at, sizeof word);
+    return word;
+}
+
+#define EACH(byte) ((byte)*UINT64_C(0x0101010101010101))
+#define HIGH_BITS EACH(0x80)
+
+/*
+ * A byte is marked by its high bit. The first mark is true: below it no sum or
+ * difference goes over from one byte to the next.
+ */
+
+static inline uint64_t mark_others(uint64_t digits)
+{
+    uint64_t values = digits ^ EACH('0');
+    return (values | (values + EACH(0x80 - 10))) & HIGH_BITS;
+}
+
+/* Bytes from 0 to 31 and bars. */
+static inline uint64_t mark_special(uint64_t word)
+{
+    return ((word - EACH(32)) | ((word ^ EACH(BAR)) - EACH(1))) & ~word & HIGH_BITS;
+}
+
+static inline unsigned first_marked(uint64_t marks)
+{
+    return (unsigned)__builtin_ctzll(marks) / 8;
+}
+
+/* ------------------------------------------- field 1: may the line stand? */
 
 static const struct row *find_row(uint32_t code, uint64_t length)
 {
-    const struct row *row = &rows[slots[SLOT(code)]];
-    return length == 4 && row->code == code ? row : NULL;
+    const struct row *row = slots[SLOT(code)];
+    return length == 4 && row != NULL && row->code == code ? row : NULL;
 }
 
-static bool is_open(const struct checker *c, unsigned row)
+static inline bool is_open(const struct checker *c, unsigned row, int level)
 {
-    int level = rows[row].level;
     return c->level >= level && c->open[level].row == row;
 }
 
@@ -357,7 +406,8 @@ static bool opening_stands(const struct checker *c, unsigned row)
     return c->level == 1 && before < row && rows[before].role == CLOSING;
 }
 
-static bool line_stands(const struct checker *c, const struct row *row)
+/* A line that is no data. */
+static bool frame_stands(const struct checker *c, const struct row *row)
 {
     switch (row->role) {
     case START:
@@ -365,22 +415,13 @@ static bool line_stands(const struct checker *c, const struct row *row)
     case OPENING:
         return opening_stands(c, row->number);
     default:
-        return is_open(c, row->parent);
+        return is_open(c, row->parent, 1);
     }
-}
-
-static bool breaks_mark(const struct checker *c, const struct row *row)
-{
-    if (row->role == DATA)
-        return c->mark == 1;
-    return row->role == CLOSING && c->mark == 0 && c->level == 1;
 }
 
 /* One more of the row under its parent line: more than it allows? */
 static bool is_too_many(struct checker *c, const struct row *row)
 {
-    if (row->most == 0 || row->role != DATA)
-        return false;
     uint32_t parent = c->open[row->level - 1].line;
     if (c->under[row->number].parent != parent) {
         c->under[row->number].parent = parent;
@@ -390,7 +431,7 @@ static bool is_too_many(struct checker *c, const struct row *row)
 }
 
 /* The line now is the last of the open lines. */
-static void open_line(struct checker *c, const struct row *row)
+static inline void open_line(struct checker *c, const struct row *row)
 {
     c->row = row;
     c->level = row->level;
@@ -406,20 +447,34 @@ static void set_count(struct checker *c, const struct row *row)
         c->count++;
 }
 
+static inline unsigned judge_data(struct checker *c, const struct row *row)
+{
+    if (!is_open(c, row->parent, row->level - 1))
+        return 4;
+    if (c->mark == 1)
+        return 5;
+    if (row->most != 0 && is_too_many(c, row))
+        return 6;
+    open_line(c, row);
+    return 0;
+}
+
+static unsigned judge_frame(struct checker *c, const struct row *row)
+{
+    if (!frame_stands(c, row))
+        return 4;
+    if (row->role == CLOSING && c->mark == 0 && c->level == 1)
+        return 5;
+    open_line(c, row);
+    set_count(c, row);
+    return 0;
+}
+
 static unsigned judge_row(struct checker *c, const struct row *row)
 {
     if (row == NULL)
         return 3;
-    if (!line_stands(c, row))
-        return 4;
-    if (breaks_mark(c, row))
-        return 5;
-    if (is_too_many(c, row))
-        return 6;
-    open_line(c, row);
-    if (row->role != DATA)
-        set_count(c, row);
-    return 0;
+    return row->role == DATA ? judge_data(c, row) : judge_frame(c, row);
 }
 
 /* ------------------------------------------------- fields after the first */
@@ -429,15 +484,25 @@ static bool is_leap(unsigned year)
     return year % 4 == 0 && (year % 100 != 0 || year % 400 == 0);
 }
 
+static inline bool is_day(unsigned day, unsigned month, unsigned year)
+{
+    static const uint8_t days[] = {31, 28, 31, 30, 31, 30, 31, 31, 30, 31, 30, 31};
+    if (year - 1900 > 199 || month - 1 > 11)
+        return false;
+    return day - 1 < days[month - 1] || (day == 29 && month == 2 && is_leap(year));
+}
+
 /* ddmmyyyy as one number. */
 static bool is_date(uint32_t value)
 {
-    static const uint8_t days[] = {31, 28, 31, 30, 31, 30, 31, 31, 30, 31, 30, 31};
-    unsigned day = value / 1000000, month = value / 10000 % 100, year = value % 10000;
-    if (year < 1900 || year > 2099 || month < 1 || month > 12)
-        return false;
-    unsigned last = month == 2 && is_leap(year) ? 29 : days[month - 1];
-    return day >= 1 && day <= last;
+    return is_day(value / 1000000, value / 10000 % 100, value % 10000);
+}
+
+/* ddmmyyyy as eight digits: two by two they make a number below 100, in a byte with one to be left out between. */
+static inline bool is_date_word(uint64_t digits)
+{
+    uint64_t values = digits ^ EACH('0'), pairs = values * 10 + (values >> 8);
+    return is_day(pairs & 0xFF, pairs >> 16 & 0xFF, (pairs >> 32 & 0xFF) * 100 + (pairs >> 48 & 0xFF));
 }
 
 /* What the digits before a check digit ask it to be, by their weighted sum. */
@@ -608,6 +673,7 @@ static unsigned judge_field(struct checker *c)
         return judge_fixed(c);
     case DIGITS:
         return judge_digits(c);
+    case AMOUNT:
     case DECIMALS:
         return judge_decimals(c);
     case MARK:
@@ -630,8 +696,6 @@ static unsigned judge_field(struct checker *c)
 }
 
 /* These take in a field's bytes up to a special one, or to the piece's end. */
-
-typedef const uint8_t *place;
 
 /* A byte that may not stand behind so many of its field: the place of the first such byte is kept. */
 RARE static void take_wrong(struct checker *c, uint64_t before)
@@ -712,87 +776,118 @@ static place take_value(struct checker *c, place from, place end)
 }
 
 /*
- * These find the bar of a field that breaks no rule, NULL for any other: that
- * one is for those above. A line's end is known to come in the piece, so the
- * piece's end needs no look.
+ * These give the place behind the bar of a field that breaks no rule, NULL for
+ * any other: that one is for those above. A line's end is known to come in the
+ * piece, and a word's bytes behind it, so the piece's end needs no look.
  */
 
-static place pass_text(place from, uint32_t size)
+/* Eight digits stand here, and perhaps more. */
+static APART place behind_digits(place at)
 {
-    place at = from;
-    while (!special[*at])
-        at++;
-    return *at == BAR && at - from <= size ? at : NULL;
-}
-
-/* Over a digit and all that follow. */
-static place pass_some(place at)
-{
+    uint64_t others;
     do
-        at++;
-    while (digit[*at]);
-    return at;
+        at += 8;
+    while ((others = mark_others(eight_bytes(at))) == 0);
+    return at + first_marked(others);
 }
 
-static place pass_digits(place from, uint32_t size)
+static inline place pass_text(place from, uint32_t size)
 {
-    if (!digit[*from])
-        return *from == BAR ? from : NULL;
-    place at = pass_some(from);
-    return *at == BAR && (size == 0 || at - from == size) ? at : NULL;
-}
-
-static place pass_decimals(place from, uint32_t decimals)
-{
-    if (!digit[*from])
-        return *from == BAR ? from : NULL;
-    place at = pass_some(from);
-    if (*at != ',')
-        return NULL;
-    for (; decimals != 0; decimals--)
-        if (!digit[*++at])
-            return NULL;
-    return *++at == BAR ? at : NULL;
-}
-
-static place pass_date(place from, uint32_t size)
-{
+    uint64_t special;
     place at = from;
-    uint32_t value = 0;
-    for (; digit[*at]; at++)
-        value = value * 10 + (uint32_t)(*at - '0');
-    if (*at != BAR)
+    while ((special = mark_special(eight_bytes(at))) == 0)
+        at += 8;
+    at += first_marked(special);
+    return *at == BAR && at - from <= size ? at + 1 : NULL;
+}
+
+static inline place pass_digits(place from, uint32_t size)
+{
+    uint64_t others = mark_others(eight_bytes(from));
+    place bar = others != 0 ? from + first_marked(others) : behind_digits(from);
+    if (*bar != BAR)
         return NULL;
-    return at == from || (at - from == size && is_date(value)) ? at : NULL;
+    return bar - from == size || bar == from || size == 0 ? bar + 1 : NULL;
+}
+
+/* A comma, so many digits and a bar: bits are left over of any other bytes. */
+static inline bool ends_decimals(place comma, unsigned decimals)
+{
+    uint64_t digits = EACH(1) >> (64 - 8 * decimals) << 8, bar = UINT64_C(256) << 8 * decimals;
+    uint64_t word = eight_bytes(comma) ^ (',' | digits * '0' | bar * BAR);
+    return ((word | (word + digits * (0x80 - 10))) & (0xFF | digits * 0x80 | bar * 0xFF)) == 0;
+}
+
+static inline place pass_empty(place at)
+{
+    return *at == BAR ? at + 1 : NULL;
+}
+
+static inline place pass_decimals(place from, unsigned decimals)
+{
+    uint64_t others = mark_others(eight_bytes(from));
+    if (others & 0x80)
+        return pass_empty(from);
+    place comma = others != 0 ? from + first_marked(others) : behind_digits(from);
+    return ends_decimals(comma, decimals) ? comma + decimals + 2 : NULL;
+}
+
+static inline place pass_date(place from)
+{
+    uint64_t word = eight_bytes(from);
+    if (mark_others(word) != 0)
+        return pass_empty(from);
+    return from[8] == BAR && is_date_word(word) ? from + 9 : NULL;
 }
 
 static place pass_checked(place from, uint32_t size)
 {
-    place bar = pass_digits(from, size);
-    return bar == NULL || bar == from || is_checked(from, size) ? bar : NULL;
+    place next = pass_digits(from, size);
+    return next == NULL || next == from + 1 || is_checked(from, size) ? next : NULL;
 }
 
-/* Two decimals are so frequent that they get a loop of their own. */
-static place pass_field(const struct kind *kind, place at)
+/* Other numbers of decimals than these and an amount's two are not in the layout. */
+static inline place pass_more_decimals(place at, unsigned decimals)
 {
-    if (kind->form == DECIMALS)
-        return kind->size == 2 ? pass_decimals(at, 2) : pass_decimals(at, kind->size);
-    if (kind->form == DIGITS)
-        return pass_digits(at, kind->size);
+    switch (decimals) {
+    case 3:
+        return pass_decimals(at, 3);
+    case 4:
+        return pass_decimals(at, 4);
+    case 6:
+        return pass_decimals(at, 6);
+    default:
+        return NULL;
+    }
+}
+
+static APART place pass_rarer(const struct kind *kind, place at)
+{
+    switch (kind->form) {
+    case DECIMALS:
+        return pass_more_decimals(at, kind->size);
+    case DATE:
+        return pass_date(at);
+    case CHECKED:
+        return pass_checked(at, kind->size);
+    default:
+        return NULL;
+    }
+}
+
+/* The most frequent forms first; behind the last field there is none to pass. */
+static inline place pass_field(const struct kind *kind, place at)
+{
+    if (kind->form == AMOUNT)
+        return pass_decimals(at, 2);
     if (kind->form == TEXT)
         return pass_text(at, kind->size);
-    if (kind->form == DATE)
-        return pass_date(at, kind->size);
-    return kind->form == CHECKED ? pass_checked(at, kind->size) : NULL;
+    if (kind->form == DIGITS)
+        return pass_digits(at, kind->size);
+    return kind->form == NO_FIELD ? NULL : pass_rarer(kind, at);
 }
 
 /* ------------------------------------------------------------------ lines */
-
-/*
- * Those that give a stage take in bytes, at least one in the stage they are
- * called for, move `at` behind them and say in which stage the next byte
- * comes. Behind `last` no line of the piece ends.
- */
 
 /* A byte from 0 to 31 in a field. */
 static unsigned judge_control(const struct checker *c, uint8_t byte)
@@ -800,51 +895,88 @@ static unsigned judge_control(const struct checker *c, uint8_t byte)
     return c->length == 0 && (byte == CR || byte == LF) ? 7 : 2;
 }
 
-/* Over the fields of the line, up to one that breaks a rule or is of a rare form. */
-static place pass_fields(struct checker *c, place at)
+/* Here no byte is wrong yet: a field that had one was refused. Behind the last field comes the line's end. */
+static enum stage begin_field(struct checker *c, const struct kind *kind)
 {
-    const struct kind *kind = c->kind;
-    uint32_t left = c->left;
-    place bar;
-    while (left != 0 && (bar = pass_field(kind, at)) != NULL) {
-        at = bar + 1;
-        kind++;
-        left--;
-    }
     c->kind = kind;
-    c->left = left;
-    return at;
-}
-
-/* Here no byte is wrong yet: a field that had one was refused. */
-static enum stage begin_field(struct checker *c, place *at, place last)
-{
-    if (!STEPS && *at < last)
-        *at = pass_fields(c, *at);
-    if (c->left == 0)
-        return LINE_END;
     c->length = 0;
     c->value = 0;
     c->comma = 0;
-    return (enum stage)c->kind->form;
+    return (enum stage)kind->form;
 }
 
-static enum stage begin_row(struct checker *c, const struct row *row, place *at, place last)
+static enum stage begin_row(struct checker *c, const struct row *row)
 {
     unsigned number = judge_row(c, row);
-    if (number != 0)
-        return refuse(c, number, 1);
-    c->kind = row->kinds;
-    c->left = row->fields - 1;
-    return begin_field(c, at, last);
+    return number != 0 ? refuse(c, number, 1) : begin_field(c, row->kinds);
 }
 
-static enum stage code_field(struct checker *c, place *at, place end, place last)
+static inline void count_line(struct checker *c, const struct row *row)
+{
+    c->lines++;
+    c->counts[row->number]++;
+    c->totals[row->block]++;
+}
+
+/* A bar, a row's code and a bar: NULL for anything else. */
+static inline const struct row *row_at(place at)
+{
+    const uint64_t bars = 0xFF | UINT64_C(0xFF) << 40;
+    uint64_t word = eight_bytes(at);
+    return (word & bars) == (EACH(BAR) & bars) ? find_row((uint32_t)(word >> 8), 4) : NULL;
+}
+
+/* Over fields of a line, up to one that breaks a rule or is of a rare form, or to the line's end. */
+static inline place pass_fields(const struct kind **kind, place at)
+{
+    const struct kind *k = *kind;
+    place next;
+    while ((next = pass_field(k, at)) != NULL) {
+        at = next;
+        k++;
+    }
+    *kind = k;
+    return at;
+}
+
+/*
+ * Over whole lines of data, as far as they break no rule; behind `last` no
+ * line of the piece ends. What stops it is left to the stages below.
+ */
+static APART place pass_lines(struct checker *c, place at, place last)
+{
+    const struct row *row;
+    while (at < last && (row = row_at(at)) != NULL && row->role == DATA) {
+        const struct kind *kind = row->kinds;
+        unsigned number = judge_data(c, row);
+        at += 6;
+        if (number != 0) {
+            c->stage = refuse(c, number, 1);
+            return at;
+        }
+        at = pass_fields(&kind, at);
+        if (kind->form != NO_FIELD || at[0] != CR || at[1] != LF) {
+            c->stage = begin_field(c, kind);
+            return at;
+        }
+        at += 2;
+        count_line(c, row);
+    }
+    return at;
+}
+
+/*
+ * Those that give a stage take in bytes, at least one in the stage they are
+ * called for, move `at` behind them and say in which stage the next byte
+ * comes.
+ */
+
+static enum stage code_field(struct checker *c, place *at, place end)
 {
     place from = *at;
     uint32_t code = c->code;
     for (; *at != end && !special[**at]; ++*at)
-        code = code << 8 | **at;
+        code = code >> 8 | (uint32_t)**at << 24;
     c->code = code;
     c->length += (uint64_t)(*at - from);
     if (*at == end)
@@ -852,26 +984,19 @@ static enum stage code_field(struct checker *c, place *at, place end, place last
     uint8_t byte = *(*at)++;
     if (byte != BAR)
         return refuse(c, judge_control(c, byte), 1);
-    return begin_row(c, find_row(c->code, c->length), at, last);
+    return begin_row(c, find_row(c->code, c->length));
 }
 
-/* A row's code that stands whole in the piece is taken in at once. */
-static enum stage line_start(struct checker *c, place *at, place end, place last)
+static enum stage line_start(struct checker *c, place *at)
 {
     if (*(*at)++ != BAR)
         return refuse(c, 1, 0);
     c->length = 0;
-    if (end - *at < 5 || (*at)[4] != BAR)
-        return CODE;
-    const struct row *row = find_row(four_bytes(*at), 4);
-    if (row == NULL)
-        return CODE;
-    *at += 5;
-    return begin_row(c, row, at, last);
+    return CODE;
 }
 
 /* Takes in bytes of a field after the first, which stop at `to`. */
-static enum stage field(struct checker *c, enum stage stage, place to, place *at, place end, place last)
+static enum stage field(struct checker *c, enum stage stage, place to, place *at, place end)
 {
     c->length += (uint64_t)(to - *at);
     *at = to;
@@ -880,10 +1005,8 @@ static enum stage field(struct checker *c, enum stage stage, place to, place *at
     ++*at;
     unsigned number = *to == BAR ? judge_field(c) : judge_control(c, *to);
     if (number != 0)
-        return refuse(c, number, c->row->fields + 1 - c->left);
-    c->kind++;
-    c->left--;
-    return begin_field(c, at, last);
+        return refuse(c, number, (uint32_t)(c->kind - c->row->kinds) + 2);
+    return begin_field(c, c->kind + 1);
 }
 
 static enum stage line_end(struct checker *c, place *at)
@@ -898,9 +1021,7 @@ static enum stage line_feed(struct checker *c, place *at)
 {
     if (*(*at)++ != LF)
         return refuse(c, 9, 0);
-    c->lines++;
-    c->counts[c->row->number]++;
-    c->totals[c->row->block]++;
+    count_line(c, c->row);
     return c->row->role == END ? FILE_END : LINE_START;
 }
 
@@ -910,14 +1031,14 @@ static enum stage file_end(struct checker *c, place *at)
     return refuse(c, 15, 0);
 }
 
-static enum stage go_on(struct checker *c, enum stage stage, place *at, place end, place last)
+static enum stage go_on(struct checker *c, enum stage stage, place *at, place end)
 {
     place to;
     switch (stage) {
     case LINE_START:
-        return line_start(c, at, end, last);
+        return line_start(c, at);
     case CODE:
-        return code_field(c, at, end, last);
+        return code_field(c, at, end);
     case IN_TEXT:
         to = take_text(*at, end);
         break;
@@ -927,6 +1048,7 @@ static enum stage go_on(struct checker *c, enum stage stage, place *at, place en
     case IN_DIGITS:
         to = take_digits(c, *at, end);
         break;
+    case IN_AMOUNT:
     case IN_DECIMALS:
         to = take_decimals(c, *at, end);
         break;
@@ -943,27 +1065,27 @@ static enum stage go_on(struct checker *c, enum stage stage, place *at, place en
     default:
         to = take_value(c, *at, end);
     }
-    return field(c, stage, to, at, end, last);
+    return field(c, stage, to, at, end);
 }
 
+/* Of the lines behind whose end a word's bytes stand in the piece. */
 static place behind_last_line(place bytes, place end)
 {
-    while (end != bytes && end[-1] != LF)
-        end--;
-    return end;
+    place at = end - bytes > 8 ? end - 8 : bytes;
+    while (at != bytes && at[-1] != LF)
+        at--;
+    return at;
 }
 
-/* The stage is kept in a variable, and not looked at where it stays, so that the compiler can join stages. */
 static void judge(struct checker *c, place bytes, uint64_t length)
 {
     place at = bytes, end = bytes + length, last = STEPS ? bytes : behind_last_line(bytes, end);
-    enum stage stage = c->stage;
-    while (at != end) {
-        enum stage next = go_on(c, stage, &at, STEPS ? at + 1 : end, last);
-        if (next != stage && (stage = next) == REFUSED)
-            break;
+    while (at != end && c->stage != REFUSED) {
+        if (c->stage == LINE_START)
+            at = pass_lines(c, at, last);
+        if (at != end && c->stage != REFUSED)
+            c->stage = go_on(c, c->stage, &at, STEPS ? at + 1 : end);
     }
-    c->stage = stage;
     c->bytes += (uint64_t)(at - bytes);
 }
 
@@ -992,7 +1114,7 @@ static uint64_t wrong_decimals(const struct checker *c)
 
 static uint64_t wrong_byte(const struct checker *c)
 {
-    return c->kind->form == DECIMALS ? wrong_decimals(c) : c->wrong;
+    return c->kind->form == AMOUNT || c->kind->form == DECIMALS ? wrong_decimals(c) : c->wrong;
 }
 
 /* Only 2 and 10 name a byte. It is found when asked for: a refusal leaves the field in hand as it is. */
