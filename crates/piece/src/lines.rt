@@ -9,7 +9,7 @@ ghost use Rattle.layout.specs.Rows.{rowCount, none, rowOfCode};
 ghost use Rattle.layout.specs.Packed.{rowNumbers, parentColumn, silentColumn, packedKinds, startColumn, slotTable};
 ghost use Rattle.rules.specs.Bytes.{bar};
 ghost use Rattle.rules.specs.Rules.{byteLimit};
-ghost use Rattle.whole.specs.Whole.{sortTable, longest, margin};
+ghost use Rattle.whole.specs.Whole.{longest, margin};
 ghost use Rattle.line.specs.Machine.{Tables};
 ghost use Rattle.state.specs.Ranges.{Held};
 ghost use Rattle.piece.specs.Piece.{tallyOf};
@@ -40,7 +40,6 @@ use line::step::LF;
 use rules::BYTE_LIMIT;
 use whole::kind::MARGIN;
 use whole::kind::field_past;
-use whole::sorts::BYTES;
 
 // The bytes of a line's head: a bar, a code and a bar.
 const HEAD: usize = 6;
@@ -177,15 +176,15 @@ fn begun(
 
 // Over whole fields, as far as they go. Behind a row's last field stands the next row's code, whose kind is never passed: so the
 // number of fields is not asked here.
-fn fields_past(sorts: &[u8; BYTES], kinds: &[u32; FIELDS], s: &[u8], safe: usize, p: Place) -> Place
-    requires { ⌜ (now sorts ≡ sortTable) × (now kinds ≡ packedKinds) × (safe ≤ length (now s) - margin) ⌝ }
+fn fields_past(kinds: &[u32; FIELDS], s: &[u8], safe: usize, p: Place) -> Place
+    requires { ⌜ (now kinds ≡ packedKinds) × (safe ≤ length (now s) - margin) ⌝ }
     requires { ⌜ Placed p × (p .row < rowCount) × (p .at < safe + longest) ⌝ }
     ensures { λ r. ⌜ Fielded (now (s .entry)) safe p r ⌝ }
 {
     let mut i = p.at;
     let mut index = p.index;
     while i < safe {
-        let j = field_past(sorts, s, i, kinds[index] as u64, safe);
+        let j = field_past(s, i, kinds[index] as u64, safe);
         if j == 0 {
             break;
         }
@@ -258,7 +257,6 @@ fn lines_past(
     kinds: &[u32; FIELDS],
     starts: &[usize; ENTRIES],
     slots: &[usize; SLOTS],
-    sorts: &[u8; BYTES],
     counts: &mut [u64; ROWS],
     stamps: &mut [u64; ROWS],
     occurrences: &mut [u64; ROWS],
@@ -267,7 +265,7 @@ fn lines_past(
     before: u64,
     p0: Place,
 ) -> Place
-    requires { ⌜ Tables (now rows) (now parents) (now kinds) (now starts) (now slots) × (now sorts ≡ sortTable) × (now silent ≡ silentColumn) ⌝ }
+    requires { ⌜ Tables (now rows) (now parents) (now kinds) (now starts) (now slots) × (now silent ≡ silentColumn) ⌝ }
     requires { ⌜ Along (now s) before p0 (now counts) (now stamps) (now occurrences) (now totals) p0 (now counts) (now stamps) (now occurrences) (now totals) ⌝ }
     ensures { λ r. ⌜ Along (now (s .entry)) before p0 (now (counts .entry)) (now (stamps .entry)) (now (occurrences .entry)) (now (totals .entry)) r (now (counts .exit)) (now (stamps .exit)) (now (occurrences .exit)) (now (totals .exit)) ⌝ }
 {
@@ -289,7 +287,7 @@ fn lines_past(
         if r == ROWS {
             return p;
         }
-        p = fields_past(sorts, kinds, s, safe, p);
+        p = fields_past(kinds, s, safe, p);
         if !ends_here(rows, starts, s, p) {
             return p;
         }
@@ -308,7 +306,6 @@ pub fn lines_from(
     kinds: &[u32; FIELDS],
     starts: &[usize; ENTRIES],
     slots: &[usize; SLOTS],
-    sorts: &[u8; BYTES],
     counts: &mut [u64; ROWS],
     stamps: &mut [u64; ROWS],
     occurrences: &mut [u64; ROWS],
@@ -317,7 +314,7 @@ pub fn lines_from(
     i: usize,
     h: Hot,
 ) -> Hot
-    requires { ⌜ Tables (now rows) (now parents) (now kinds) (now starts) (now slots) × (now sorts ≡ sortTable) × (now silent ≡ silentColumn) ⌝ }
+    requires { ⌜ Tables (now rows) (now parents) (now kinds) (now starts) (now slots) × (now silent ≡ silentColumn) ⌝ }
     requires { ⌜ Held h (tallyOf (now counts) (now stamps) (now occurrences) (now totals) [] []) ⌝ }
     requires { ⌜ (i ≤ length (now s)) × (i ≤ h .bytes) ⌝ }
     ensures { λ r. ⌜ Onward (now (s .entry)) (h .bytes - i) i h (now (counts .entry)) (now (stamps .entry)) (now (occurrences .entry)) (now (totals .entry)) r (now (counts .exit)) (now (stamps .exit)) (now (occurrences .exit)) (now (totals .exit)) ⌝ }
@@ -333,7 +330,6 @@ pub fn lines_from(
         kinds,
         starts,
         slots,
-        sorts,
         counts,
         stamps,
         occurrences,

@@ -4,7 +4,6 @@ ghost use mathlib.Core.Path.{_≡_};
 ghost use Prim.Native.Nat.{_+_};
 ghost use Rattle.layout.specs.Packed.{silentColumn};
 ghost use Rattle.rules.specs.Rules.{byteLimit};
-ghost use Rattle.whole.specs.Whole.{sortTable};
 ghost use Rattle.line.specs.Machine.{Below, HotFit, Tables};
 ghost use Rattle.piece.specs.Piece.{tallyOf, stepWith, keptAfter, runOf};
 ghost use Rattle.state.specs.Ranges.{Held};
@@ -23,9 +22,9 @@ use line::hot::Hot;
 use line::periods::PAIRS;
 use line::step::Step;
 use line::step::judge;
+use state::State;
 use state::Tally;
 use state::answers::Checked;
-use whole::sorts::BYTES;
 
 fn tally_of(
     counts: [u64; ROWS],
@@ -109,23 +108,22 @@ fn judge_all(
     kinds: &[u32; FIELDS],
     starts: &[usize; ENTRIES],
     slots: &[usize; SLOTS],
-    sorts: &[u8; BYTES],
-    h0: Hot,
-    tally: Tally,
+    from: State,
     piece: &[u8],
 ) -> Checked
-    requires { ⌜ Tables (now rows) (now parents) (now kinds) (now starts) (now slots) × (now sorts ≡ sortTable) × (now silent ≡ silentColumn) ⌝ }
-    requires { ⌜ Held h0 tally ⌝ }
-    ensures { λ r. ⌜ r ≡ runOf h0 tally (now (piece .entry)) ⌝ }
+    requires { ⌜ Tables (now rows) (now parents) (now kinds) (now starts) (now slots) × (now silent ≡ silentColumn) ⌝ }
+    requires { ⌜ Held (from .hot) (from .tally) ⌝ }
+    ensures { λ r. ⌜ r ≡ runOf (from .hot) (from .tally) (now (piece .entry)) ⌝ }
 {
-    let mut h = h0;
+    let mut h = from.hot;
+    let tally = from.tally;
     let mut counts = tally.counts;
     let mut stamps = tally.stamps;
     let mut occurrences = tally.occurrences;
     let mut totals = tally.totals;
     let mut stated = tally.stated;
     let mut pairs = tally.pairs;
-    let before = h0.bytes;
+    let before = h.bytes;
     let mut i = 0;
     while i < piece.len() {
         h = lines_from(
@@ -135,7 +133,6 @@ fn judge_all(
             kinds,
             starts,
             slots,
-            sorts,
             &mut counts,
             &mut stamps,
             &mut occurrences,
@@ -176,9 +173,9 @@ fn judge_all(
 }
 
 // The same, with the tables: read once a piece, so that a look-up is a plain load.
-pub fn run(h: Hot, tally: Tally, piece: &[u8]) -> Checked
-    requires { ⌜ Held h tally ⌝ }
-    ensures { λ r. ⌜ r ≡ runOf h tally (now (piece .entry)) ⌝ }
+pub fn run(from: State, piece: &[u8]) -> Checked
+    requires { ⌜ Held (from .hot) (from .tally) ⌝ }
+    ensures { λ r. ⌜ r ≡ runOf (from .hot) (from .tally) (now (piece .entry)) ⌝ }
 {
     let rows = row_table::table();
     let parents = layout::parents::table();
@@ -186,7 +183,6 @@ pub fn run(h: Hot, tally: Tally, piece: &[u8]) -> Checked
     let kinds = layout::kinds::table();
     let starts = layout::kinds::starts();
     let slots = layout::codes::slots();
-    let sorts = whole::sorts::sorts();
     judge_all(
         &rows,
         &parents,
@@ -194,9 +190,7 @@ pub fn run(h: Hot, tally: Tally, piece: &[u8]) -> Checked
         &kinds,
         &starts,
         &slots,
-        &sorts,
-        h,
-        tally,
+        from,
         piece,
     )
 }

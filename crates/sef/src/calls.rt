@@ -81,9 +81,7 @@ pub fn check(s: State, piece: &[u8]) -> Checked
             state: s,
         };
     }
-    let h = s.hot;
-    let tally = s.tally;
-    run(h, tally, piece)
+    run(s, piece)
 }
 
 // The final answer of a file whose pieces have all come.

@@ -14,8 +14,8 @@ use Rattle.layout.specs.Lists.{allBelow}
 use Rattle.layout.proofs.Below.{those, those-at}
 use Rattle.rules.specs.Bytes.{bar}
 use Rattle.rules.specs.Fields.{isDigit, comma}
-use Rattle.whole.specs.Word.{leading, wordOf}
-use Rattle.whole.proofs.SortLaws.{digit-bounds}
+use Rattle.whole.specs.Word.{alike, leading, wordOf}
+use Rattle.whole.proofs.ByteLaws.{digit-bounds}
 use Rattle.whole.proofs.WordLaws.{four-word}
 
 -- ",00|", the bits of it that are fixed, and what is added to each digit
@@ -52,7 +52,7 @@ module _ (s : List ℕ) (i x : ℕ) (word : x ≡ wordOf 4 s i) (bytes : (k : �
   byte j u v p q = rw (← p, ← q) (sym (off-part j 8 fixed cents x (x + sixEach)) ∙ rw (none, zero-div))
 
   pub cents-are : (getD s i 0 ≡ comma) × (leading 2 s (i + 1) ≡ 2) × (getD s (i + 3) 0 ≡ bar)
-  unfolding those allBelow leading
+  unfolding those allBelow alike
   cents-are =
       let a = getD s i 0 in
       let b = getD s (i + 1) 0 in

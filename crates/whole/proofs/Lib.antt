@@ -1,6 +1,9 @@
-pub mod SortLaws
+pub mod ByteLaws
+pub mod AlikeLaws
+pub mod MarkLaws
 pub mod WordLaws
 pub mod CentsLaws
 pub mod PastLaws
+pub mod EmptyLaws
 pub mod TextLaws
 pub mod NumberLaws

@@ -17,32 +17,22 @@ use Rattle.field.specs.declared.bytes.Field.{Field}
 use Rattle.field.specs.Streaming.{cap, emptyField, valueWith, digitWith, decimalWith, digitFits, commaFits, withByte, faultOf}
 use Rattle.field.specs.Streaming.{emptyFault, isTextClass, numberFault, rightForm, rightSize, isExact, digitsFault, contentFault}
 use Rattle.field.specs.Digits.{cnpjRight, cpfRight}
-use Rattle.whole.specs.Whole.{ends, numberAt, dateKind, cnpjKind, cpfKind, longest, Whole, Past}
+use Rattle.whole.specs.Whole.{ends, numberAt, amountKind, dateKind, cnpjKind, cpfKind, longest, Whole, CentsPast, Past}
 use Rattle.whole.specs.Word.{leading}
-use Rattle.whole.proofs.SortLaws.{digit-bounds}
-use Rattle.whole.proofs.WordLaws.{leading-le}
+use Rattle.whole.proofs.ByteLaws.{digit-bounds, digit-plain}
+use Rattle.whole.proofs.AlikeLaws.{alike-le, alike-pass}
 use Rattle.whole.proofs.PastLaws.{at-byte, run, bar-last}
 
 -- n digits from i on
 abbrev pub Digits : List ℕ → ℕ → ℕ → Type 0
 Digits s i n = (k : ℕ) → k < n → isDigit (getD s (i + k) 0) ≡ true
 
-pub leading-digits : (n : ℕ) (s : List ℕ) (i : ℕ) → Digits s i (leading n s i)
-unfolding leading
-leading-digits zero s i k l = absurd (omega arith)
-leading-digits (suc n) s i zero l =
-    split (isDigit (getD s i 0)) (λ e. rw (add-zero i) e) (λ e. absurd (omega (arith, rw e at l)))
-leading-digits (suc n) s i (suc k) l =
-    let on : i + suc k ≡ suc i + k = omega arith in
-    split (isDigit (getD s i 0))
-    (λ e. rw on (leading-digits n s (suc i) k (omega (arith, rw e at l))))
-    (λ e. absurd (omega (arith, rw e at l)))
+-- of the bytes counted as digits each is one
+pub leading-le : (n : ℕ) (s : List ℕ) (i : ℕ) → leading n s i ≤ n
+leading-le = alike-le isDigit
 
-digit-plain : (b : ℕ) → isDigit b ≡ true → ends b ≡ false
-unfolding ends
-digit-plain b e =
-    let bounds = digit-bounds b e in
-    rw (le-ltb b 32 (omega arith), ne-eqb b bar (λ p. omega arith))
+pub leading-digits : (n : ℕ) (s : List ℕ) (i : ℕ) → Digits s i (leading n s i)
+leading-digits = alike-pass isDigit
 
 abbrev holding : ℕ → ℕ → Field
 holding length value = record { length = length; wrong = 0; value = value }
@@ -68,12 +58,6 @@ module _ {kind class size : ℕ} (number : Number kind class size) (s : List ℕ
   fault-is : (f : Field) (due : ℕ) → faultOf kind f due ≡ numberFault class size f due
   unfolding faultOf
   fault-is f due = rw (number .class-is, number .size-is, number .no-code, number .no-text)
-
-  pub empty-past : {j : ℕ} → (j ≡ i + 1) × (getD s i 0 ≡ bar) → Past kind s i (i + longest) j
-  unfolding numberFault
-  empty-past {j} b =
-      past kind s i i j (b .0) (omega arith) (omega arith)
-      (bar-last kind s i (omega arith) (b .1) (λ due. fault-is emptyField due ∙ number .no-need))
 
   -- digits: how many there were, and their value up to the cap
   abbrev after : ℕ → Field
@@ -139,12 +123,10 @@ module _ {kind d : ℕ} (number : Number kind decimalsClass d) (s : List ℕ) (i
   unfolding numberFault rightForm rightSize isExact contentFault
   decimals-clear l due h = fault-is number s i far (holding l 1) due ∙ rw (ne-eqb l 0 (λ e. omega arith))
 
-  pub decimal-past : {j : ℕ} → k ≡ leading 8 s i → 1 ≤ k → getD s (i + k) 0 ≡ comma → d ≤ 8 → Digits s (i + k + 1) d
+  pub decimal-past : {j : ℕ} → Digits s i k → 1 ≤ k → getD s (i + k) 0 ≡ comma → k + d + 2 ≤ longest → Digits s (i + k + 1) d
       → (j ≡ i + k + 1 + d + 1) × (getD s (i + k + 1 + d) 0 ≡ bar) → Past kind s i (i + longest) j
   unfolding ends
-  decimal-past {j} told h c few behind b =
-      let before-few = leading-le 8 s i in
-      let before : Digits s i k = rw told (leading-digits 8 s i) in
+  decimal-past {j} before h c few behind b =
       let ys = drop (i + k + 1 + d + 1) s in
       let none : d + 1 - d ≡ 1 = omega arith in
       past kind s i (i + k + 1 + d) j (b .0) (omega arith) (omega arith)
@@ -164,6 +146,14 @@ module _ (kind size : ℕ) (size-is : kind / sizeUnit ≡ size) where
   pub exact-number : kind % sizeUnit ≡ nClass → Number kind nClass size
   unfolding isTextClass emptyFault
   exact-number class-is = record { class-is = class-is; size-is = size-is; no-code = refl; no-text = refl; no-need = refl }
+
+-- an amount, whose k digits stand before its decimals
+pub amount-past : (s : List ℕ) (i : ℕ) → i + longest ≤ length s → (k : ℕ) → Digits s i k → 1 ≤ k → k ≤ 16 → {j : ℕ}
+    → CentsPast s (i + k) j → Past amountKind s i (i + longest) j
+amount-past s i far k digits h few cents =
+    let last : i + k + 1 + 2 ≡ i + k + 3 = omega arith in
+    decimal-past (decimal-number amountKind 2 refl refl) s i k far digits h (cents .comma-first) (omega arith)
+    (rw (cents .two-digits) at (leading-digits 2 s (i + k + 1))) (omega (arith, cents .on), rw last (cents .bar-last))
 
 any-number : (kind : ℕ) → kind % sizeUnit ≡ nAnyClass → Number kind nAnyClass (kind / sizeUnit)
 unfolding isTextClass emptyFault

@@ -6,18 +6,22 @@ use Prim.Native.Nat.{ℕ, _+_, _-_, _/_, _%_, _≤_, _<_}
 use native.Mathlib.Omega.{arith}
 use native.Mathlib.Decide.{decLt}
 use lib.ListN.{length, getD, drop}
-use borrow.Author.Count.{below-more}
-use borrow.Author.Tests.{le-ltb}
+use borrow.Author.Tests.{le-ltb, not-true}
 use Rattle.layout.specs.Packed.{sizeUnit, cClass}
 use Rattle.rules.specs.Bytes.{bar}
 use Rattle.field.specs.Streaming.{longer, withByte, faultOf, isTextClass, textFault}
 use Rattle.field.specs.declared.bytes.Field.{Field}
 use Rattle.whole.specs.Whole.{ends, Plain, Whole, Past}
+use Rattle.whole.specs.Word.{alike}
+use Rattle.whole.proofs.AlikeLaws.{alike-pass}
+use Rattle.whole.proofs.WordLaws.{isPlain}
 use Rattle.whole.proofs.PastLaws.{run, bar-last}
 
--- one byte more, and a part more
-pub plain-more : (s : List ℕ) (i e : ℕ) → Plain s i e → ends (getD s e 0) ≡ false → Plain s i (e + 1)
-plain-more s i e p q = below-more (λ k. i ≤ k → ends (getD s k 0) ≡ false) e p (λ l. q)
+-- what is counted as plain, and a part more
+pub plain-counted : (n : ℕ) (s : List ℕ) (i e : ℕ) → e ≡ i + alike isPlain n s i → Plain s i e
+plain-counted n s i e is k l o =
+    let on : i + (k - i) ≡ k = omega arith in
+    not-true (ends (getD s k 0)) (rw on at (alike-pass isPlain n s i (k - i) (omega arith)))
 
 pub plain-join : (s : List ℕ) (i j e : ℕ) → Plain s i j → Plain s j e → Plain s i e
 plain-join s i j e p q k l o = go (decLt k j)

@@ -1,2 +1,2 @@
-pub mod Whole
 pub mod Word
+pub mod Whole

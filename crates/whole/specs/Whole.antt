@@ -1,27 +1,20 @@
--- A whole field at once: the sorts of bytes, and what it is that a field and its bar are passed.
+-- A whole field at once: what it is that a field and its bar are passed.
 use mathlib.Core.Bool.{Bool, false, _&&_, _||_}
 use mathlib.Core.Path.{_≡_}
 use mathlib.Core.List.{List, [], _∷_}
 use Prim.Native.Nat.{ℕ, zero, suc, _+_, _-_, _*_, _%_, _≤_, _<_}
 use lib.Dec.{eqb, leb, ltb}
 use lib.ListN.{getD, drop}
-use Rattle.layout.specs.Pick.{pick}
-use Rattle.layout.specs.Lists.{tabulate}
 use Rattle.layout.specs.Packed.{sizeUnit, cClass, decimalsClass, dateClass, cnpjClass, cpfClass}
 use Rattle.rules.specs.Bytes.{bar}
+use Rattle.rules.specs.Fields.{comma}
 use Rattle.field.specs.Streaming.{emptyField, withByte, faultOf}
 use Rattle.field.specs.declared.bytes.Field.{Field}
+use Rattle.whole.specs.Word.{leading}
 
 -- a byte that no field holds
 unfoldable pub ends : ℕ → Bool
 ends b = ltb b 32 || eqb b bar
-
--- 1 for such a byte, 0 for any other
-unfoldable pub sortOf : ℕ → ℕ
-sortOf b = pick (ends b) 1 0
-
-unfoldable pub sortTable : List ℕ
-sortTable = tabulate 256 sortOf
 
 -- from i up to e no byte ends a field
 abbrev pub Plain : List ℕ → ℕ → ℕ → Type 0
@@ -55,13 +48,20 @@ pub data Whole (kind : ℕ) : Field → List ℕ → List ℕ → Type 0 where
   with-byte : {f : Field} {b : ℕ} {xs ys : List ℕ} → ends b ≡ false → Whole kind (withByte kind f b) xs ys
       → Whole kind f (b ∷ xs) ys
 
--- the longest number that is passed: 8 digits, a comma, 8 digits and the bar
+-- the longest number that is passed: 16 digits, a comma, two digits and the bar
 abbrev pub longest : ℕ
-longest = 18
+longest = 20
 
 -- so many bytes must stand from a place on that is looked at last: such a number from there, and CR LF, less one byte
 abbrev pub margin : ℕ
 margin = longest + 1
+
+-- j is past two decimals, whose comma stands at c, and their bar
+pub record CentsPast (s : List ℕ) (c j : ℕ) : Type 0 where
+  pub on : j ≡ c + 4
+  pub comma-first : getD s c 0 ≡ comma
+  pub two-digits : leading 2 s (c + 1) ≡ 2
+  pub bar-last : getD s (c + 3) 0 ≡ bar
 
 -- j is past the bar of a whole field of this kind that starts at i, and at most far
 pub record Past (kind : ℕ) (s : List ℕ) (i far j : ℕ) : Type 0 where

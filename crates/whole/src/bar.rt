@@ -4,7 +4,7 @@ ghost use Prim.Native.Nat.{_+_, _<_};
 ghost use lib.ListN.{length, getD};
 ghost use Rattle.rules.specs.Bytes.{bar};
 
-const BAR: u8 = 124;
+pub const BAR: u8 = 124;
 
 // Past the bar that should stand at e.
 pub fn bar_past(s: &[u8], e: usize) -> usize

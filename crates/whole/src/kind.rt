@@ -3,7 +3,8 @@ ghost use mathlib.Core.Bool.{true};
 ghost use mathlib.Core.Path.{_≡_};
 ghost use Prim.Native.Nat.{_+_, _-_, _≤_, _<_};
 ghost use lib.ListN.{length};
-ghost use Rattle.whole.specs.Whole.{sortTable, isQuick, longest, margin, Past};
+ghost use Rattle.whole.specs.Whole.{isQuick, longest, margin, Past};
+use crate::bar::BAR;
 use crate::numbers::amount_past;
 use crate::numbers::any_past;
 use crate::numbers::cnpj_past;
@@ -11,7 +12,6 @@ use crate::numbers::cpf_past;
 use crate::numbers::date_past;
 use crate::numbers::decimal_past;
 use crate::numbers::exact_past;
-use crate::sorts::BYTES;
 use crate::text::text_past;
 use field::bytes::CLASS_C;
 use field::bytes::CLASS_CNPJ;
@@ -23,7 +23,7 @@ use field::bytes::CLASS_N_ANY;
 use field::bytes::SIZE_UNIT;
 
 // So many bytes stand behind every place at which a field is looked for: the longest number that is passed, from there on, and CR LF.
-pub const MARGIN: usize = 19;
+pub const MARGIN: usize = 21;
 
 // N with two decimals: half of a file's bytes.
 const AMOUNT: u64 = CLASS_DECIMALS + SIZE_UNIT * 2;
@@ -33,6 +33,31 @@ const DATE: u64 = CLASS_DATE + SIZE_UNIT * 8;
 const CNPJ: u64 = CLASS_CNPJ + SIZE_UNIT * 14;
 
 const CPF: u64 = CLASS_CPF + SIZE_UNIT * 11;
+
+// Whether fields of this kind can be passed.
+fn is_quick(kind: u64) -> bool
+    ensures { λ t. ⌜ t ≡ isQuick kind ⌝ }
+{
+    let class = kind % SIZE_UNIT;
+    if class < CLASS_C {
+        return false;
+    }
+    if class <= CLASS_DATE {
+        return true;
+    }
+    CLASS_CNPJ <= class && class <= CLASS_CPF
+}
+
+// An empty field, whose bar stands at i: it breaks no rule of these kinds.
+fn empty_past(i: usize, kind: u64) -> usize
+    requires { ⌜ i < 18446744073709551615 ⌝ }
+    ensures { λ j. ⌜ (0 < j → (j ≡ i + 1) × (isQuick kind ≡ true)) ⌝ }
+{
+    if !is_quick(kind) {
+        return 0;
+    }
+    i + 1
+}
 
 // The kinds that are rarer. What is none of them is not passed.
 fn other_past(s: &[u8], i: usize, kind: u64) -> usize
@@ -59,16 +84,19 @@ fn other_past(s: &[u8], i: usize, kind: u64) -> usize
 }
 
 // A field of this kind that starts at i.
-pub fn field_past(sorts: &[u8; BYTES], s: &[u8], i: usize, kind: u64, safe: usize) -> usize
-    requires { ⌜ (now sorts ≡ sortTable) × (i < safe) × (safe ≤ length (now s) - margin) ⌝ }
+pub fn field_past(s: &[u8], i: usize, kind: u64, safe: usize) -> usize
+    requires { ⌜ (i < safe) × (safe ≤ length (now s) - margin) ⌝ }
     ensures { λ j. ⌜ (0 < j → Past kind (now (s .entry)) i (safe + longest - 1) j × (isQuick kind ≡ true)) ⌝ }
 {
+    if s[i] == BAR {
+        return empty_past(i, kind);
+    }
     if kind == AMOUNT {
         return amount_past(s, i);
     }
     let class = kind % SIZE_UNIT;
     if class == CLASS_C {
-        return text_past(sorts, s, i, (kind / SIZE_UNIT) as usize, safe);
+        return text_past(s, i, (kind / SIZE_UNIT) as usize, safe);
     }
     if class == CLASS_N {
         return exact_past(s, i, (kind / SIZE_UNIT) as usize);

@@ -4,5 +4,5 @@ mod bar;
 mod digits;
 pub mod kind;
 mod numbers;
-pub mod sorts;
 mod text;
+mod word;

@@ -1,4 +1,4 @@
-// Numbers: digits alone, with decimals, dates, and those with check digits. An empty one is passed too.
+// Numbers: digits alone, with decimals, dates, and those with check digits.
 ghost use mathlib.Core.Path.{_≡_};
 ghost use Prim.Native.Nat.{ℕ, _+_, _/_, _%_, _≤_, _<_};
 ghost use lib.ListN.{length, getD};
@@ -6,10 +6,14 @@ ghost use Rattle.layout.specs.Packed.{sizeUnit, nClass, nAnyClass, decimalsClas
 ghost use Rattle.rules.specs.Bytes.{bar};
 ghost use Rattle.rules.specs.Fields.{comma};
 ghost use Rattle.whole.specs.Word.{leading};
-ghost use Rattle.whole.specs.Whole.{numberAt, amountKind, dateKind, cnpjKind, cpfKind, longest, Past};
+ghost use Rattle.whole.specs.Whole.{numberAt, amountKind, dateKind, cnpjKind, cpfKind, longest, CentsPast, Past};
 use crate::bar::bar_past;
 use crate::digits::digits_from;
-use crate::digits::four;
+use crate::digits::others;
+use crate::word::WORD;
+use crate::word::eight;
+use crate::word::first_of;
+use crate::word::four;
 use field::check_digits::is_cnpj;
 use field::check_digits::is_cpf;
 use field::date::is_date;
@@ -25,9 +29,6 @@ const FIXED: u64 = 0xfff0f0ff;
 // So much is added to both digits: those bits stay as they are up to 9.
 const SIX_EACH: u64 = 0x00060600;
 
-// So many digits are looked at in one turn.
-const TURN: usize = 8;
-
 // The digits of a date, of a CNPJ and of a CPF.
 const DATE_SIZE: usize = 8;
 
@@ -38,7 +39,7 @@ const CPF_SIZE: usize = 11;
 // Two decimals, whose comma should stand at c, and their bar: four bytes are looked at as one number.
 fn cents_past(s: &[u8], c: usize) -> usize
     requires { ⌜ c + 4 ≤ length (now s) ⌝ }
-    ensures { λ j. ⌜ (0 < j → (j ≡ c + 4) × (getD (now (s .entry)) c 0 ≡ comma) × (leading 2 (now (s .entry)) (c + 1) ≡ 2) × (getD (now (s .entry)) (c + 3) 0 ≡ bar)) ⌝ }
+    ensures { λ j. ⌜ (0 < j → CentsPast (now (s .entry)) c j) ⌝ }
 {
     let x = four(s, c);
     if (((x ^ CENTS) | ((x + SIX_EACH) ^ CENTS)) & FIXED) != 0 {
@@ -47,14 +48,26 @@ fn cents_past(s: &[u8], c: usize) -> usize
     c + 4
 }
 
-// An amount with two decimals and at most 8 digits before them.
+// The rest of an amount, after eight digits: at most eight more, and its decimals.
+fn long_amount_past(s: &[u8], i: usize) -> usize
+    requires { ⌜ i + 12 ≤ length (now s) ⌝ }
+    ensures { λ j. ⌜ (0 < j → CentsPast (now (s .entry)) (i + leading 8 (now (s .entry)) i) j) ⌝ }
+{
+    cents_past(s, i + digits_from(s, i))
+}
+
+// An amount with two decimals and at most 16 digits before them. Most have fewer than eight, and are told by one look.
 pub fn amount_past(s: &[u8], i: usize) -> usize
     requires { ⌜ i + longest ≤ length (now s) ⌝ }
     ensures { λ j. ⌜ (0 < j → Past amountKind (now (s .entry)) i (i + longest) j) ⌝ }
 {
-    let k = digits_from(s, i);
+    let marks = others(eight(s, i));
+    if marks == 0 {
+        return long_amount_past(s, i + WORD);
+    }
+    let k = first_of(marks);
     if k == 0 {
-        return bar_past(s, i);
+        return 0;
     }
     cents_past(s, i + k)
 }
@@ -89,7 +102,7 @@ pub fn decimal_past(s: &[u8], i: usize, size: usize) -> usize
 {
     let k = digits_from(s, i);
     if k == 0 {
-        return bar_past(s, i);
+        return 0;
     }
     decimals_past(s, i + k, size)
 }
@@ -100,10 +113,10 @@ fn many_digits_from(s: &[u8], i: usize) -> usize
     ensures { λ k. ⌜ k ≡ leading 16 (now (s .entry)) i ⌝ }
 {
     let k = digits_from(s, i);
-    if k < TURN {
+    if k < WORD {
         return k;
     }
-    TURN + digits_from(s, i + TURN)
+    WORD + digits_from(s, i + WORD)
 }
 
 // Exactly so many digits, at most 16.
@@ -112,9 +125,6 @@ pub fn exact_past(s: &[u8], i: usize, size: usize) -> usize
     ensures { λ j. ⌜ ((kind : ℕ) → kind % sizeUnit ≡ nClass → kind / sizeUnit ≡ size → 0 < j → Past kind (now (s .entry)) i (i + longest) j) ⌝ }
 {
     let k = many_digits_from(s, i);
-    if k == 0 {
-        return bar_past(s, i);
-    }
     exactly(s, i + k, k, size)
 }
 
@@ -145,9 +155,6 @@ pub fn date_past(s: &[u8], i: usize) -> usize
     ensures { λ j. ⌜ (0 < j → Past dateKind (now (s .entry)) i (i + longest) j) ⌝ }
 {
     let k = many_digits_from(s, i);
-    if k == 0 {
-        return bar_past(s, i);
-    }
     if k != DATE_SIZE {
         return 0;
     }
@@ -162,9 +169,6 @@ pub fn cnpj_past(s: &[u8], i: usize) -> usize
     ensures { λ j. ⌜ (0 < j → Past cnpjKind (now (s .entry)) i (i + longest) j) ⌝ }
 {
     let k = many_digits_from(s, i);
-    if k == 0 {
-        return bar_past(s, i);
-    }
     if k != CNPJ_SIZE {
         return 0;
     }
@@ -179,9 +183,6 @@ pub fn cpf_past(s: &[u8], i: usize) -> usize
     ensures { λ j. ⌜ (0 < j → Past cpfKind (now (s .entry)) i (i + longest) j) ⌝ }
 {
     let k = many_digits_from(s, i);
-    if k == 0 {
-        return bar_past(s, i);
-    }
     if k != CPF_SIZE {
         return 0;
     }

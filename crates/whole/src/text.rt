@@ -3,28 +3,29 @@ ghost use mathlib.Core.Path.{_≡_};
 ghost use Prim.Native.Nat.{ℕ, _+_, _-_, _/_, _%_, _≤_, _<_};
 ghost use lib.ListN.{length};
 ghost use Rattle.layout.specs.Packed.{sizeUnit, cClass};
-ghost use Rattle.whole.specs.Whole.{sortTable, margin, Plain, Past};
+ghost use Rattle.whole.specs.Word.{stopMarks};
+ghost use Rattle.whole.specs.Whole.{margin, Plain, Past};
 use crate::bar::bar_past;
-use crate::sorts::BYTES;
-use crate::sorts::STOP;
-use crate::sorts::sort_of;
+use crate::word::TOP_BITS;
+use crate::word::WORD;
+use crate::word::eight;
+use crate::word::first_of;
 
-// So many bytes are looked at in one turn.
-const TURN: usize = 8;
+// So much is added to each byte: from 32 on it carries, and its top bit is clear up to 127.
+const FROM_SPACE: u64 = 0xdfdfdfdfdfdfdfe0;
 
-// The first of eight bytes that ends a field; past them, if none does.
-fn stop_from(sorts: &[u8; BYTES], s: &[u8], i: usize) -> usize
-    requires { ⌜ (now sorts ≡ sortTable) × (i + 8 ≤ length (now s)) ⌝ }
-    ensures { λ e. ⌜ (i ≤ e) × (e ≤ i + 8) × Plain (now (s .entry)) i e ⌝ }
+const BARS: u64 = 0x7c7c7c7c7c7c7c7c;
+
+// The same for what is no bar, with the bits of a bar turned.
+const FROM_ONE: u64 = 0xfefefefefefefeff;
+
+// 0 if none of the eight bytes ends a field; else its first mark is that of the first byte that does.
+fn stops(x: u64) -> u64
+    ensures { λ r. ⌜ r ≡ stopMarks 8 x ⌝ }
 {
-    let mut k = 0;
-    while k < TURN {
-        if sort_of(sorts, s[i + k]) == STOP {
-            return i + k;
-        }
-        k += 1;
-    }
-    i + TURN
+    let low = std::num::wrapping_add_u64(x, FROM_SPACE)
+        | std::num::wrapping_add_u64(x ^ BARS, FROM_ONE);
+    low & (x ^ TOP_BITS) & TOP_BITS
 }
 
 // Past the bar of a text from i to e.
@@ -39,17 +40,17 @@ fn sized_past(s: &[u8], i: usize, e: usize, size: usize) -> usize
 }
 
 // Past a text of at most so many bytes.
-pub fn text_past(sorts: &[u8; BYTES], s: &[u8], i: usize, size: usize, safe: usize) -> usize
-    requires { ⌜ (now sorts ≡ sortTable) × (safe ≤ length (now s) - margin) ⌝ }
-    ensures { λ j. ⌜ ((kind : ℕ) → kind % sizeUnit ≡ cClass → kind / sizeUnit ≡ size → 0 < j → Past kind (now (s .entry)) i (safe + 7) j) ⌝ }
+pub fn text_past(s: &[u8], i: usize, size: usize, safe: usize) -> usize
+    requires { ⌜ safe ≤ length (now s) - margin ⌝ }
+    ensures { λ j. ⌜ ((kind : ℕ) → kind % sizeUnit ≡ cClass → kind / sizeUnit ≡ size → 0 < j → Past kind (now (s .entry)) i (safe + 8) j) ⌝ }
 {
     let mut j = i;
     while j < safe {
-        let e = stop_from(sorts, s, j);
-        if e < j + TURN {
-            return sized_past(s, i, e, size);
+        let marks = stops(eight(s, j));
+        if marks != 0 {
+            return sized_past(s, i, j + first_of(marks), size);
         }
-        j += TURN;
+        j += WORD;
     }
     0
 }

@@ -9,10 +9,10 @@ use Rattle.piece.proofs.lines.fields_past.Statement.{statement}
 use Rattle.piece.proofs.lines.fields_past.Tie as tie
 
 abbrev Inv-loop : tie.InvT-loop
-Inv-loop sorts kinds s safe p i₀ index₀ i index = Fielded s safe p (placeAt p i index)
+Inv-loop kinds s safe p i₀ index₀ i index = Fielded s safe p (placeAt p i index)
 
 abbrev μ-loop : tie.MeasureT-loop
-μ-loop sorts kinds s safe p i₀ index₀ i index = safe - i
+μ-loop kinds s safe p i₀ index₀ i index = safe - i
 
 loop-holds : tie.Need-loop-holds Inv-loop μ-loop
 loop-holds c =
@@ -36,7 +36,7 @@ cast-field-past c =
     let at = c .before .before in
     let start = at .before .before in
     let small = kind-small (start .args .p) (start .pre .1 .1) _ _ (at .loop .inv .placed) in
-    record { fits = rw (start .pre .0 .1) (omega (arith, small)) }
+    record { fits = rw (start .pre .0 .0) (omega (arith, small)) }
 
 field-past-requires : tie.Need-field-past-requires Inv-loop μ-loop
 field-past-requires c κs = search needs
@@ -58,8 +58,8 @@ loop-again c =
     let passed = c .before in
     let turn = passed .before .before in
     let pre = turn .before .before .before .pre in
-    let past = rw (pre .0 .1) at (passed .field-past .ensures (omega (arith, c .if1 .left))) in
-    fielded-next _ _ _ (pre .1 .1) _ _ _ (pre .0 .2) (turn .loop-test .taken) (turn .before .loop .inv) (past .0) (past .1)
+    let past = rw (pre .0 .0) at (passed .field-past .ensures (omega (arith, c .if1 .left))) in
+    fielded-next _ _ _ (pre .1 .1) _ _ _ (pre .0 .1) (turn .loop-test .taken) (turn .before .loop .inv) (past .0) (past .1)
 
 returns : tie.Need-returns Inv-loop μ-loop
 returns c = c .before .loop .inv

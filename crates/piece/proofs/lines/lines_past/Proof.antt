@@ -14,11 +14,11 @@ use Rattle.piece.proofs.lines.lines_past.Statement.{statement}
 use Rattle.piece.proofs.lines.lines_past.Tie as tie
 
 abbrev Inv-loop : tie.InvT-loop
-Inv-loop rows parents silent kinds starts slots sorts counts₀ stamps₀ occurrences₀ totals₀ s before safe p₀ counts stamps occurrences totals p =
+Inv-loop rows parents silent kinds starts slots counts₀ stamps₀ occurrences₀ totals₀ s before safe p₀ counts stamps occurrences totals p =
     Along s before p₀ counts₀ stamps₀ occurrences₀ totals₀ p counts stamps occurrences totals
 
 abbrev μ-loop : tie.MeasureT-loop
-μ-loop rows parents silent kinds starts slots sorts counts₀ stamps₀ occurrences₀ totals₀ s before safe p₀ counts stamps occurrences totals p =
+μ-loop rows parents silent kinds starts slots counts₀ stamps₀ occurrences₀ totals₀ s before safe p₀ counts stamps occurrences totals p =
     safe - p .at
 
 safe-of-requires : tie.Need-safe-of-requires Inv-loop μ-loop
@@ -36,7 +36,7 @@ begun-requires c κs =
     let tables = start .pre .0 .0 in
     let inv = at .loop .inv in
     let fits = rw (← safe .safe-of .ensures) at (safe-length (start .args .before) (length (start .args .s .now))) in (
-      (tables .rows, tables .parents, start .pre .0 .2, tables .starts, tables .slots),
+      (tables .rows, tables .parents, start .pre .0 .1, tables .starts, tables .slots),
       (inv .placed, place-fit _ _ (inv .held .fit) .last, omega (arith, fits, turn .if1 .taken)),
     )
 
@@ -58,7 +58,7 @@ fields-past-requires c κs =
     let start = safe .before .before in
     let head = begun .begun .ensures in
     let fits = rw (← safe .safe-of .ensures) at (safe-length (start .args .before) (length (start .args .s .now))) in (
-      (start .pre .0 .1, start .pre .0 .0 .kinds, fits),
+      (start .pre .0 .0 .kinds, fits),
       (head .placed, omega (arith, head .placed .row, c .if2 .left), omega (arith, head .near, turn .if1 .taken)),
     )
 
@@ -118,7 +118,7 @@ silent-at-requires : tie.Need-silent-at-requires Inv-loop μ-loop
 silent-at-requires c κs =
     let begun = c .before .before .before .before .before .before .before .before .before in
     let start = begun .before .before .before .before .before .before .before .before in
-    (start .pre .0 .2, begun .begun .ensures .placed .row)
+    (start .pre .0 .1, begun .begun .ensures .placed .row)
 
 raise-requires : tie.Need-raise-requires Inv-loop μ-loop
 raise-requires c κs = held-small _ _ (c .before .before .before .before .before .before .before .before .before .before .before .before .before .before .before .before .loop .inv .held) .2

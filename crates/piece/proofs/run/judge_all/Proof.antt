@@ -10,23 +10,23 @@ use Rattle.piece.proofs.run.judge_all.Statement.{statement}
 use Rattle.piece.proofs.run.judge_all.Tie as tie
 
 abbrev Inv-loop : tie.InvT-loop
-Inv-loop rows parents silent kinds starts slots sorts piece h₀ counts₀ stamps₀ occurrences₀ totals₀ stated₀ pairs₀ before i₀ h counts stamps occurrences totals stated pairs i =
+Inv-loop rows parents silent kinds starts slots piece h₀ counts₀ stamps₀ occurrences₀ totals₀ stated₀ pairs₀ before i₀ h counts stamps occurrences totals stated pairs i =
     Going piece h₀ (tallyOf counts₀ stamps₀ occurrences₀ totals₀ stated₀ pairs₀) h
     (tallyOf counts stamps occurrences totals stated pairs) i
 
 abbrev μ-loop : tie.MeasureT-loop
-μ-loop rows parents silent kinds starts slots sorts piece h₀ counts₀ stamps₀ occurrences₀ totals₀ stated₀ pairs₀ before i₀ h counts stamps occurrences totals stated pairs i =
+μ-loop rows parents silent kinds starts slots piece h₀ counts₀ stamps₀ occurrences₀ totals₀ stated₀ pairs₀ before i₀ h counts stamps occurrences totals stated pairs i =
     length piece - i
 
 loop-holds : tie.Need-loop-holds Inv-loop μ-loop
 loop-holds c =
-    let start = c .before .before .before .before .before .before .before in
+    let start = c .before .before .before .before .before .before .before .before .before in
     going-start _ _ _ (start .pre .1)
 
 lines-from-requires : tie.Need-lines-from-requires Inv-loop μ-loop
 lines-from-requires c κs =
     let at = c .before .before .before .before .before in
-    let start = at .before .before .before .before .before .before .before .before in
+    let start = at .before .before .before .before .before .before .before .before .before .before in
     let inv = at .loop .inv in
     (start .pre .0, (held-rows _ _ _ _ _ _ _ (inv .held), (inv .within, omega (arith, inv .bytes))))
 
@@ -42,7 +42,7 @@ judged-requires : tie.Need-judged-requires Inv-loop μ-loop
 judged-requires c κs =
     let led = c .before .before .before .before .before .before .before .before .before in
     let at = led .before .before .before .before .before .before in
-    let known = at .before .before .before .before .before .before .before in
+    let known = at .before .before .before .before .before .before .before .before .before in
     let all : AllBytes (known .before .args .piece .now) = λ k. known .shared-slice-known .given k .fits in
     let g = going-on (at .loop .inv) all (led .lines-from .ensures) in
     (known .before .pre .0 .0, (g .held .fit, held-small _ _ (g .held)))
@@ -60,7 +60,7 @@ ended-by-requires : tie.Need-ended-by-requires Inv-loop μ-loop
 ended-by-requires c κs =
     let led = c .before .before .before .before .before .before .before .before .before .before .before .before .before in
     let at = led .before .before .before .before .before .before in
-    let known = at .before .before .before .before .before .before .before in
+    let known = at .before .before .before .before .before .before .before .before .before in
     let all : AllBytes (known .before .args .piece .now) = λ k. known .shared-slice-known .given k .fits in
     let g = going-on (at .loop .inv) all (led .lines-from .ensures) in
     g .held .fit
@@ -72,7 +72,7 @@ returns c =
     let turn = judged .before .before .before .before .before .before .before .before in
     let led = turn .before .before in
     let at = led .before .before .before .before .before .before in
-    let known = at .before .before .before .before .before .before .before in
+    let known = at .before .before .before .before .before .before .before .before .before in
     let all : AllBytes (known .before .args .piece .now) = λ k. known .shared-slice-known .given k .fits in
     let g = going-on (at .loop .inv) all (led .lines-from .ensures) in
     let e = judged .judged .ensures in
@@ -82,7 +82,7 @@ returns c =
 add-i : tie.Need-add-i Inv-loop μ-loop
 add-i c =
     let turn = c .before .before .before .before .before .before .before .before .before .before .before in
-    let start = turn .before .before .before .before .before .before .before .before .before .before .before .before .before .before .before .before in
+    let start = turn .before .before .before .before .before .before .before .before .before .before .before .before .before .before .before .before .before .before in
     omega (arith, turn .if1 .taken, start .good)
 
 loop-less : tie.Need-loop-less Inv-loop μ-loop
@@ -98,7 +98,7 @@ loop-again c =
     let turn = judged .before .before .before .before .before .before .before .before in
     let led = turn .before .before in
     let at = led .before .before .before .before .before .before in
-    let known = at .before .before .before .before .before .before .before in
+    let known = at .before .before .before .before .before .before .before .before .before in
     let all : AllBytes (known .before .args .piece .now) = λ k. known .shared-slice-known .given k .fits in
     let g = going-on (at .loop .inv) all (led .lines-from .ensures) in
     let e = judged .judged .ensures in
@@ -113,7 +113,7 @@ loop-again-2 : tie.Need-loop-again-2 Inv-loop μ-loop
 loop-again-2 c =
     let led = c .before .before in
     let at = led .before .before .before .before .before .before in
-    let known = at .before .before .before .before .before .before .before in
+    let known = at .before .before .before .before .before .before .before .before .before in
     let all : AllBytes (known .before .args .piece .now) = λ k. known .shared-slice-known .given k .fits in
     let g = going-on (at .loop .inv) all (led .lines-from .ensures) in
     g

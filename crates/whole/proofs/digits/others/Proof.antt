@@ -1,18 +1,17 @@
 -- `digits::others` meets its contract.
 use borrow.Author.Needs.{needs}
-use Rattle.whole.specs.Word.{maskOf, adds, takes, tops}
+use Rattle.whole.proofs.WordLaws.{others-are}
 use Rattle.whole.proofs.digits.others.Statement.{statement}
 use Rattle.whole.proofs.digits.others.Tie as tie
 
-add-result : tie.Need-add-result
-add-result c = search needs
+wrapping-add-u64-requires : tie.Need-wrapping-add-u64-requires
+wrapping-add-u64-requires c κs = search needs
 
-add-result-2 : tie.Need-add-result-2
-add-result-2 c = search needs
+wrapping-add-u64-requires-2 : tie.Need-wrapping-add-u64-requires-2
+wrapping-add-u64-requires-2 c κs = search needs
 
 returns : tie.Need-returns
-unfolding maskOf adds takes tops
-returns c = search needs
+returns c = others-are _ _ _ (c .before .wrapping-add-u64 .ensures) (c .wrapping-add-u642 .ensures)
 
 pub others-spec : {M : Type 1} → statement M
-others-spec = tie.close (tie.spec add-result add-result-2 returns)
+others-spec = tie.close (tie.spec wrapping-add-u64-requires wrapping-add-u64-requires-2 returns)

@@ -1,54 +1,94 @@
 -- `numbers::amount_past` meets its contract.
-use mathlib.Core.Path.{_≡_, refl}
+use mathlib.Core.Path.{_≡_, _∙_, sym}
 use Prim.Native.Nat.{_+_}
 use native.Mathlib.Omega.{arith}
-use Rattle.whole.specs.Whole.{amountKind}
-use Rattle.whole.proofs.WordLaws.{leading-le}
-use Rattle.whole.proofs.NumberLaws.{leading-digits, empty-past, decimal-past, decimal-number}
 use borrow.Author.Needs.{needs}
+use Rattle.rules.specs.Fields.{isDigit}
+use Rattle.whole.specs.Word.{leading}
+use Rattle.whole.proofs.AlikeLaws.{alike-on}
+use Rattle.whole.proofs.MarkLaws.{told-eight}
+use Rattle.whole.proofs.WordLaws.{other-marks}
+use Rattle.whole.proofs.NumberLaws.{leading-le, leading-digits, amount-past}
 use Rattle.whole.proofs.numbers.amount_past.Statement.{statement}
 use Rattle.whole.proofs.numbers.amount_past.Tie as tie
 
-digits-from-requires : tie.Need-digits-from-requires
-digits-from-requires c κs = search needs
+eight-requires : tie.Need-eight-requires
+eight-requires c κs = search needs
 
-bar-past-requires : tie.Need-bar-past-requires
-bar-past-requires c κs = search needs
+others-requires : tie.Need-others-requires
+others-requires c κs = search needs
+
+add-long-amount-past : tie.Need-add-long-amount-past
+add-long-amount-past c = search needs
+
+long-amount-past-requires : tie.Need-long-amount-past-requires
+long-amount-past-requires c κs = search needs
 
 returns : tie.Need-returns
 returns c = λ more.
-    let a = c .before .before .before .before .args in
-    empty-past (decimal-number amountKind 2 refl refl) (a .s .now) (a .i) (omega arith) (c .bar-past .ensures more)
+    let looked = c .before .before in
+    let known = looked .before .before in
+    let a = known .before .args in
+    let s = a .s .now in
+    let all = told-eight other-marks s (a .i) (λ k. known .shared-slice-known .given k .fits) (looked .before .eight .ensures)
+    (looked .others .ensures) .all (c .before .if1 .taken) in
+    let joined = alike-on isDigit 8 8 s (a .i) (sym all) in
+    let on : a .i + 8 + leading 8 s (a .i + 8) ≡ a .i + leading 16 s (a .i) = omega (arith, joined) in
+    amount-past s (a .i) (omega arith) (leading 16 s (a .i)) (leading-digits 16 s (a .i)) (omega (arith, joined))
+    (leading-le 16 s (a .i)) (rw on at (c .long-amount-past .ensures more))
+
+first-of-requires : tie.Need-first-of-requires
+first-of-requires c κs = search needs
+
+returns-2 : tie.Need-returns-2
+returns-2 c = λ more. absurd (omega arith)
 
 add-cents-past : tie.Need-add-cents-past
 add-cents-past c =
-    let a = c .before .before .before .args in
-    omega (arith, c .before .digits-from .ensures, leading-le 8 (a .s .now) (a .i))
+    let counted = c .before in
+    let looked = counted .before .before in
+    let known = looked .before .before in
+    let a = known .before .args in
+    let told = told-eight other-marks (a .s .now) (a .i) (λ k. known .shared-slice-known .given k .fits) (looked .before .eight .ensures)
+    (looked .others .ensures) .some (counted .before .if1 .left) in
+    let k = counted .first-of .ensures ∙ told in
+    omega (arith, k, leading-le 8 (a .s .now) (a .i))
 
 cents-past-requires : tie.Need-cents-past-requires
 cents-past-requires c κs =
-    let a = c .before .before .before .args in
-    omega (arith, c .before .digits-from .ensures, leading-le 8 (a .s .now) (a .i))
+    let counted = c .before in
+    let looked = counted .before .before in
+    let known = looked .before .before in
+    let a = known .before .args in
+    let told = told-eight other-marks (a .s .now) (a .i) (λ k. known .shared-slice-known .given k .fits) (looked .before .eight .ensures)
+    (looked .others .ensures) .some (counted .before .if1 .left) in
+    let k = counted .first-of .ensures ∙ told in
+    omega (arith, k, leading-le 8 (a .s .now) (a .i))
 
-returns-2 : tie.Need-returns-2
-returns-2 c = λ more.
+returns-3 : tie.Need-returns-3
+returns-3 c = λ more.
     let counted = c .before .before in
-    let a = counted .before .before .args in
+    let looked = counted .before .before in
+    let known = looked .before .before in
+    let a = known .before .args in
+    let told = told-eight other-marks (a .s .now) (a .i) (λ k. known .shared-slice-known .given k .fits) (looked .before .eight .ensures)
+    (looked .others .ensures) .some (counted .before .if1 .left) in
+    let k = counted .first-of .ensures ∙ told in
     let s = a .s .now in
-    let k = counted .digits-from .result in
-    let past = c .cents-past .ensures more in
-    let last : a .i + k + 1 + 2 ≡ a .i + k + 3 = omega arith in
-    decimal-past (decimal-number amountKind 2 refl refl) s (a .i) k (omega arith) (counted .digits-from .ensures)
-    (omega (arith, c .before .if1 .left)) (past .1) (omega arith) (rw (past .2) at (leading-digits 2 s (a .i + k + 1)))
-    (omega (arith, past .0), rw last (past .3))
+    amount-past s (a .i) (omega arith) _ (rw (← k) at (leading-digits 8 s (a .i))) (omega (arith, c .before .if2 .left))
+    (omega (arith, k, leading-le 8 s (a .i))) (c .cents-past .ensures more)
 
 pub amount-past-spec : {M : Type 1} → statement M
 amount-past-spec =
     tie.close
     (tie.spec
-    digits-from-requires
-    bar-past-requires
+    eight-requires
+    others-requires
+    add-long-amount-past
+    long-amount-past-requires
     returns
+    first-of-requires
+    returns-2
     add-cents-past
     cents-past-requires
-    returns-2)
+    returns-3)

@@ -1,6 +1,6 @@
 -- `numbers::any_past` meets its contract.
 use native.Mathlib.Omega.{arith}
-use Rattle.whole.proofs.WordLaws.{leading-le}
+use Rattle.whole.proofs.NumberLaws.{leading-le}
 use Rattle.whole.proofs.NumberLaws.{any-past}
 use borrow.Author.Needs.{needs}
 use Rattle.whole.proofs.numbers.any_past.Statement.{statement}

@@ -23,7 +23,7 @@ returns-2 c = λ more.
     let a = known .before .args in
     let is = c .before .four .ensures .0 in
     let told = cents-are (a .s .now) (a .c) _ is (λ k. known .shared-slice-known .given k .fits) (c .if1 .left) in
-    (refl, told .0, told .1, told .2)
+    record { on = refl; comma-first = told .0; two-digits = told .1; bar-last = told .2 }
 
 pub cents-past-spec : {M : Type 1} → statement M
 cents-past-spec = tie.close (tie.spec four-requires add-if1 returns add-result returns-2)

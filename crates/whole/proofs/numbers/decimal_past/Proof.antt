@@ -1,22 +1,16 @@
 -- `numbers::decimal_past` meets its contract.
-use Prim.Native.Nat.{_+_}
 use native.Mathlib.Omega.{arith}
-use Rattle.whole.proofs.WordLaws.{leading-le}
-use Rattle.whole.proofs.NumberLaws.{leading-digits, empty-past, decimal-past, decimal-number}
 use borrow.Author.Needs.{needs}
+use Prim.Native.Nat.{_+_}
+use Rattle.whole.proofs.NumberLaws.{leading-le, leading-digits, decimal-past, decimal-number}
 use Rattle.whole.proofs.numbers.decimal_past.Statement.{statement}
 use Rattle.whole.proofs.numbers.decimal_past.Tie as tie
 
 digits-from-requires : tie.Need-digits-from-requires
 digits-from-requires c κs = search needs
 
-bar-past-requires : tie.Need-bar-past-requires
-bar-past-requires c κs = search needs
-
 returns : tie.Need-returns
-returns c = λ kind class size more.
-    let a = c .before .before .before .before .args in
-    empty-past (decimal-number kind (a .size) size class) (a .s .now) (a .i) (omega arith) (c .bar-past .ensures more)
+returns c = λ kind class size more. absurd (omega arith)
 
 add-decimals-past : tie.Need-add-decimals-past
 add-decimals-past c =
@@ -34,18 +28,14 @@ returns-2 c = λ kind class size more.
     let a = counted .before .before .args in
     let s = a .s .now in
     let k = counted .digits-from .result in
+    let told = counted .digits-from .ensures in
     let past = c .decimals-past .ensures more in
-    decimal-past (decimal-number kind (a .size) size class) s (a .i) k (omega arith) (counted .digits-from .ensures)
-    (omega (arith, c .before .if1 .left)) (past .1) (omega (arith, past .2, leading-le 8 s (a .i + k + 1)))
+    decimal-past (decimal-number kind (a .size) size class) s (a .i) k (omega arith) (rw (← told) at (leading-digits 8 s (a .i)))
+    (omega (arith, c .before .if1 .left)) (past .1)
+    (omega (arith, told, leading-le 8 s (a .i), past .2, leading-le 8 s (a .i + k + 1)))
     (rw (past .2) at (leading-digits 8 s (a .i + k + 1))) (past .0, past .3)
 
 pub decimal-past-spec : {M : Type 1} → statement M
 decimal-past-spec =
     tie.close
-    (tie.spec
-    digits-from-requires
-    bar-past-requires
-    returns
-    add-decimals-past
-    decimals-past-requires
-    returns-2)
+    (tie.spec digits-from-requires returns add-decimals-past decimals-past-requires returns-2)

@@ -2,7 +2,7 @@
 use mathlib.Core.Path.{_∙_, sym}
 use Prim.Native.Nat.{_+_}
 use native.Mathlib.Omega.{arith}
-use Rattle.whole.proofs.WordLaws.{leading-le}
+use Rattle.whole.proofs.NumberLaws.{leading-le}
 use borrow.Author.Needs.{needs}
 use Rattle.whole.proofs.numbers.decimals_past.Statement.{statement}
 use Rattle.whole.proofs.numbers.decimals_past.Tie as tie

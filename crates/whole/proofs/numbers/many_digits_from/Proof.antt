@@ -2,7 +2,9 @@
 use mathlib.Core.Path.{sym, _∙_}
 use Prim.Native.Nat.{_+_}
 use native.Mathlib.Omega.{arith}
-use Rattle.whole.proofs.WordLaws.{leading-le, leading-on, leading-short}
+use Rattle.whole.proofs.AlikeLaws.{alike-on, alike-short}
+use Rattle.rules.specs.Fields.{isDigit}
+use Rattle.whole.proofs.NumberLaws.{leading-le}
 use borrow.Author.Needs.{needs}
 use Rattle.whole.proofs.numbers.many_digits_from.Statement.{statement}
 use Rattle.whole.proofs.numbers.many_digits_from.Tie as tie
@@ -14,7 +16,7 @@ returns : tie.Need-returns
 returns c =
     let a = c .before .before .before .args in
     let told = c .before .digits-from .ensures in
-    told ∙ sym (leading-short 8 8 (a .s .now) (a .i) (omega (arith, c .if1 .taken)))
+    told ∙ sym (alike-short isDigit 8 8 (a .s .now) (a .i) (omega (arith, c .if1 .taken)))
 
 add-digits-from : tie.Need-add-digits-from
 add-digits-from c = search needs
@@ -32,7 +34,7 @@ returns-2 c =
     let a = c .before .before .before .before .args in
     let told = c .before .before .digits-from .ensures in
     let all = leading-le 8 (a .s .now) (a .i) in
-    omega (arith, c .digits-from2 .ensures, leading-on 8 8 (a .s .now) (a .i) (omega (arith, c .before .if1 .left)))
+    omega (arith, c .digits-from2 .ensures, alike-on isDigit 8 8 (a .s .now) (a .i) (omega (arith, c .before .if1 .left)))
 
 pub many-digits-from-spec : {M : Type 1} → statement M
 many-digits-from-spec =

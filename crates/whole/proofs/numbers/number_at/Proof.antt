@@ -9,7 +9,7 @@ use borrow.Author.Needs.{needs}
 use Rattle.rules.specs.Fields.{isDigit}
 use Rattle.field.specs.Streaming.{cap}
 use Rattle.whole.specs.Whole.{numberAt}
-use Rattle.whole.proofs.SortLaws.{digit-bounds}
+use Rattle.whole.proofs.ByteLaws.{digit-bounds}
 use Rattle.whole.proofs.NumberLaws.{leading-digits, number-small}
 use Rattle.whole.proofs.numbers.number_at.Statement.{statement}
 use Rattle.whole.proofs.numbers.number_at.Tie as tie

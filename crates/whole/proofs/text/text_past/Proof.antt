@@ -1,42 +1,76 @@
 -- `text::text_past` meets its contract.
-use Prim.Native.Nat.{_-_, _≤_}
+use mathlib.Core.Path.{_∙_}
+use Prim.Native.Nat.{_+_, _-_, _≤_}
 use native.Mathlib.Omega.{arith}
 use borrow.Author.Needs.{needs}
 use Rattle.whole.specs.Whole.{Plain}
+use Rattle.whole.proofs.AlikeLaws.{alike-le}
+use Rattle.whole.proofs.MarkLaws.{told-eight}
+use Rattle.whole.proofs.WordLaws.{isPlain, stop-marks}
 use Rattle.whole.proofs.PastLaws.{past-farther}
-use Rattle.whole.proofs.TextLaws.{plain-join}
+use Rattle.whole.proofs.TextLaws.{plain-counted, plain-join}
 use Rattle.whole.proofs.text.text_past.Statement.{statement}
 use Rattle.whole.proofs.text.text_past.Tie as tie
 
 abbrev Inv-loop : tie.InvT-loop
-Inv-loop sorts s i size safe j₀ j = (i ≤ j) × Plain s i j
+Inv-loop s i size safe j₀ j = (i ≤ j) × Plain s i j
 
 abbrev μ-loop : tie.MeasureT-loop
-μ-loop sorts s i size safe j₀ j = safe - j
+μ-loop s i size safe j₀ j = safe - j
 
 loop-holds : tie.Need-loop-holds Inv-loop μ-loop
 loop-holds c = (search needs, λ k a o. absurd (omega arith))
 
-stop-from-requires : tie.Need-stop-from-requires Inv-loop μ-loop
-stop-from-requires c κs = search needs
+eight-requires : tie.Need-eight-requires Inv-loop μ-loop
+eight-requires c κs = search needs
 
-add-if1 : tie.Need-add-if1 Inv-loop μ-loop
-add-if1 c = search needs
+stops-requires : tie.Need-stops-requires Inv-loop μ-loop
+stops-requires c κs = search needs
+
+first-of-requires : tie.Need-first-of-requires Inv-loop μ-loop
+first-of-requires c κs = search needs
+
+add-sized-past : tie.Need-add-sized-past Inv-loop μ-loop
+add-sized-past c =
+    let counted = c in
+    let looked = counted .before .before in
+    let at = looked .before .before .before in
+    let start = at .before .before in
+    let a = start .args in
+    let told = told-eight stop-marks (a .s .now) (at .loop .j) (λ k. at .before .shared-slice-known .given k .fits)
+    (looked .before .eight .ensures) (looked .stops .ensures) .some (counted .before .if1 .taken) in
+    let k = counted .first-of .ensures ∙ told in
+    let few = alike-le isPlain 8 (a .s .now) (at .loop .j) in
+    omega (arith, k, few)
 
 sized-past-requires : tie.Need-sized-past-requires Inv-loop μ-loop
 sized-past-requires c κs =
-    let at = c .before .before .before in
-    let a = at .before .before .args in
-    let stop = c .before .stop-from .ensures in (
-      omega (arith, stop .0, stop .1),
-      omega (arith, stop .0, stop .1),
-      plain-join (a .s .now) (a .i) (at .loop .j) _ (at .loop .inv .1) (stop .2),
+    let counted = c in
+    let looked = counted .before .before in
+    let at = looked .before .before .before in
+    let start = at .before .before in
+    let a = start .args in
+    let told = told-eight stop-marks (a .s .now) (at .loop .j) (λ k. at .before .shared-slice-known .given k .fits)
+    (looked .before .eight .ensures) (looked .stops .ensures) .some (counted .before .if1 .taken) in
+    let k = counted .first-of .ensures ∙ told in
+    let few = alike-le isPlain 8 (a .s .now) (at .loop .j) in (
+      omega (arith, at .loop .inv .0),
+      omega (arith, k, few),
+      plain-join (a .s .now) (a .i) (at .loop .j) _ (at .loop .inv .1) (plain-counted 8 (a .s .now) (at .loop .j) _ (rw k)),
     )
 
 returns : tie.Need-returns Inv-loop μ-loop
 returns c = λ kind class size more.
-    let stop = c .before .before .stop-from .ensures in
-    past-farther _ (omega (arith, stop .1)) (c .sized-past .ensures kind class size more)
+    let counted = c .before in
+    let looked = counted .before .before in
+    let at = looked .before .before .before in
+    let start = at .before .before in
+    let a = start .args in
+    let told = told-eight stop-marks (a .s .now) (at .loop .j) (λ k. at .before .shared-slice-known .given k .fits)
+    (looked .before .eight .ensures) (looked .stops .ensures) .some (counted .before .if1 .taken) in
+    let k = counted .first-of .ensures ∙ told in
+    let few = alike-le isPlain 8 (a .s .now) (at .loop .j) in
+    past-farther _ (omega (arith, k, few)) (c .sized-past .ensures kind class size more)
 
 add-j : tie.Need-add-j Inv-loop μ-loop
 add-j c = search needs
@@ -46,11 +80,13 @@ loop-less c = search needs
 
 loop-again : tie.Need-loop-again Inv-loop μ-loop
 loop-again c =
-    let at = c .before .before .before in
+    let looked = c .before in
+    let at = looked .before .before .before in
     let a = at .before .before .args in
-    let stop = c .before .stop-from .ensures in
-    let joined = plain-join (a .s .now) (a .i) (at .loop .j) _ (at .loop .inv .1) (stop .2) in
-    (omega arith, λ k l o. joined k (omega (arith, stop .0, stop .1, c .if1 .left)) o)
+    let told = told-eight stop-marks (a .s .now) (at .loop .j) (λ k. at .before .shared-slice-known .given k .fits)
+    (looked .before .eight .ensures) (looked .stops .ensures) .all (c .if1 .left) in
+    let plain = plain-counted 8 (a .s .now) (at .loop .j) (at .loop .j + 8) (rw (← told)) in
+    (omega (arith, at .loop .inv .0), plain-join (a .s .now) (a .i) (at .loop .j) _ (at .loop .inv .1) plain)
 
 returns-2 : tie.Need-returns-2 Inv-loop μ-loop
 returns-2 c = λ kind class size more. absurd (omega arith)
@@ -62,8 +98,10 @@ text-past-spec =
     Inv-loop
     μ-loop
     loop-holds
-    stop-from-requires
-    add-if1
+    eight-requires
+    stops-requires
+    first-of-requires
+    add-sized-past
     sized-past-requires
     returns
     add-j

@@ -1,9 +1,9 @@
--- `digits::four` meets its contract.
+-- `word::four` meets its contract.
 use native.Mathlib.Omega.{arith}
 use borrow.Author.Needs.{needs}
 use Rattle.whole.proofs.WordLaws.{four-word}
-use Rattle.whole.proofs.digits.four.Statement.{statement}
-use Rattle.whole.proofs.digits.four.Tie as tie
+use Rattle.whole.proofs.word.four.Statement.{statement}
+use Rattle.whole.proofs.word.four.Tie as tie
 
 shared-slice-read-wide : tie.Need-shared-slice-read-wide
 shared-slice-read-wide c = search needs
