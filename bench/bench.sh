@@ -68,9 +68,12 @@ start() { # start WORDS..: a program
   if native; then "$@"; else "$emulator" "$@"; fi
 }
 
+# A string move is one instruction, but callgrind counts each byte of it: so the C library is told to copy by vector moves, each of which counts.
+vector_moves="GLIBC_TUNABLES=glibc.cpu.x86_rep_movsb_threshold=0x10000000:glibc.cpu.x86_rep_stosb_threshold=0x10000000"
+
 counted() { # counted WORDS..: executed instructions of a program whose answer goes to counted.out
   if native; then
-    valgrind --tool=callgrind --callgrind-out-file=/dev/null --log-file="$dir/log" "$@" > "$dir/counted.out" 2> /dev/null
+    env "$vector_moves" valgrind --tool=callgrind --callgrind-out-file=/dev/null --log-file="$dir/log" "$@" > "$dir/counted.out" 2> /dev/null
     sed -n 's/.*Collected : \([0-9]*\).*/\1/p' "$dir/log"
   else
     { "$emulator" -d nochain,exec,op -D /dev/fd/3 "$@" 3>&1 > "$dir/counted.out" 2> /dev/null; } | add_up

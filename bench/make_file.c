@@ -96,10 +96,10 @@ static void put_amount(int decimals)
     put_digits(decimals);
 }
 
-/* Of more digits before the comma than one word of eight bytes has, but as short as can be. */
+/* Of more digits before the comma than two words of eight bytes have, but as short as can be. */
 static void put_long_amount(void)
 {
-    put_digits(9);
+    put_digits(17);
     put(",");
     put_digits(2);
 }
@@ -870,9 +870,9 @@ static void usual_file(uint64_t bytes)
 
 /*
  * A checker that passes right fields whole has to leave some to its steps,
- * byte by byte: numbers with decimals that have more than 8 digits before the
- * comma, numbers without a size that have more than 16, the dates of rows with
- * periods and what 9900 lines state. The worst file has little else. Its long
+ * byte by byte: amounts that have more than 16 digits before the comma, numbers
+ * without a size that have more than 16, the dates of rows with periods and
+ * what 9900 lines state. The worst file has little else. Its long
  * numbers are the shortest of their sort, so that there are many of them; it
  * has as many periods as a row may have, and states each code again and again.
  */
