@@ -2,7 +2,7 @@
 .PHONY: test compare exchange bench peer long kit cargo
 
 SEED = 1
-CASES = 58500
+CASES = 61500
 FILES = 2000
 
 test: kit cargo

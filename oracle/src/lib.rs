@@ -6,6 +6,7 @@
 
 #[cfg(test)]
 mod another_way;
+mod beginnings;
 mod check_digits;
 pub mod compare;
 mod content;
@@ -28,6 +29,7 @@ mod totals;
 mod verdict;
 mod wrong_byte;
 
+pub(crate) use beginnings::Beginnings;
 pub use check_digits::CheckedNumber;
 pub use checker::{Answer, Checker};
 pub use totals::Totals;

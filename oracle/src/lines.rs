@@ -15,6 +15,11 @@ impl<'a> Line<'a> {
         &rows()[self.row]
     }
 
+    /// How many bytes it has, CR and LF included.
+    pub fn length(&self) -> usize {
+        self.bytes.len()
+    }
+
     /// The text of a field, counted from 1.
     pub fn field(&self, number: usize) -> &'a [u8] {
         self.bytes.split(|&byte| byte == BAR).nth(number).unwrap_or(&[])

@@ -35,6 +35,7 @@ const RULES: [(u8, Rule); 17] = [
 ];
 
 /// A rule that a byte breaks, and the place it names.
+#[derive(Clone, Copy)]
 pub struct Broken {
     pub number: u8,
     pub field: usize,

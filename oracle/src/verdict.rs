@@ -1,7 +1,7 @@
 //! The verdict of the bytes received so far, and the final one.
 
-use crate::lines::Lines;
-use crate::rows::Counts;
+use crate::lines::{Line, Lines};
+use crate::rows::{Counts, ROWS};
 use crate::rules::{broken_rule, Broken};
 use crate::spot::LineAtHand;
 use crate::totals::{block_totals, Totals};
@@ -14,6 +14,25 @@ pub const BYTE_LIMIT: u64 = 4_294_967_296;
 pub enum Verdict {
     Open { lines: u64, bytes: u64 },
     Refused { number: u8, line: u64, field: u64, position: u64, lines: u64, bytes: u64 },
+}
+
+impl Verdict {
+    /// Of so many bytes with so many lines ended, given the first broken rule and
+    /// its byte, counted from 0.
+    pub(crate) fn of(lines: usize, broken: Option<(usize, Broken)>, length: usize) -> Verdict {
+        let lines = lines as u64;
+        match broken {
+            None => Verdict::Open { lines, bytes: length as u64 },
+            Some((byte, broken)) => Verdict::Refused {
+                number: broken.number,
+                line: lines + 1,
+                field: broken.field as u64,
+                position: broken.position as u64,
+                lines,
+                bytes: byte as u64 + 1,
+            },
+        }
+    }
 }
 
 #[derive(Clone, Copy, Debug, PartialEq, Eq)]
@@ -56,7 +75,7 @@ pub fn totals(bytes: &[u8]) -> Totals {
 }
 
 /// All there is to say of these bytes, from one reading of them.
-#[derive(Clone, Debug)]
+#[derive(Clone, Debug, PartialEq, Eq)]
 pub struct Judgement {
     pub verdict: Verdict,
     pub at_finish: Final,
@@ -67,19 +86,40 @@ pub struct Judgement {
 pub fn judgement(bytes: &[u8]) -> Judgement {
     let judged = judge(bytes, BYTE_LIMIT);
     let verdict = judged.verdict(bytes.len());
+    let last = judged.lines.last().map(|line| line.row);
+    judgement_of(verdict, last, judged.lines.per_row(), block_totals(&judged.lines))
+}
+
+/// The judgement with this verdict, given the row of the last line that ended.
+pub(crate) fn judgement_of(
+    verdict: Verdict,
+    last: Option<usize>,
+    counts: Counts,
+    totals: Totals,
+) -> Judgement {
     let at_finish = match verdict {
         Verdict::Refused { number, line, field, position, lines, bytes } => {
             Final::Refused { number, line, field, position, lines, bytes }
         }
-        Verdict::Open { lines, bytes } if judged.lines.file_is_whole() => {
-            Final::Accepted { lines, bytes }
-        }
+        // 9999 is the last row
+        Verdict::Open { lines, bytes } if last == Some(ROWS - 1) => Final::Accepted { lines, bytes },
         Verdict::Open { lines, bytes } => {
             Final::Refused { number: 14, line: lines + 1, field: 0, position: 0, lines, bytes }
         }
     };
-    let (counts, totals) = (judged.lines.per_row(), block_totals(&judged.lines));
     Judgement { verdict, at_finish, counts, totals }
+}
+
+/// The row and the end of each line that ended, and the first broken rule with its
+/// byte, counted from 0.
+pub(crate) fn ended_lines_and_break(bytes: &[u8]) -> (Vec<(usize, usize)>, Option<(usize, Broken)>) {
+    let judged = judge(bytes, BYTE_LIMIT);
+    let mut end = 0;
+    let with_end = |line: &Line| {
+        end += line.length();
+        (line.row, end)
+    };
+    (judged.lines.iter().map(with_end).collect(), judged.broken)
 }
 
 struct Judged<'a> {
@@ -90,18 +130,7 @@ struct Judged<'a> {
 
 impl Judged<'_> {
     fn verdict(&self, length: usize) -> Verdict {
-        let lines = self.lines.count() as u64;
-        match &self.broken {
-            None => Verdict::Open { lines, bytes: length as u64 },
-            Some((byte, broken)) => Verdict::Refused {
-                number: broken.number,
-                line: lines + 1,
-                field: broken.field as u64,
-                position: broken.position as u64,
-                lines,
-                bytes: *byte as u64 + 1,
-            },
-        }
+        Verdict::of(self.lines.count(), self.broken, length)
     }
 }
 

@@ -7,9 +7,13 @@ use std::process::{Command, Output};
 
 const STAND_IN: &str = env!("CARGO_BIN_EXE_stand-in");
 
-/// Enough cases for all files that come first: the known ones, those of each
+/// Enough cases for the files that come first: the known ones, those of each
 /// kind and those with some 990 lines of a row.
 const SHORT_RUN: &str = "1020";
+
+/// Enough for those that pieces are cut around as well, and so for a run to be asked
+/// what it met of each kind.
+const ASKED_RUN: &str = "1600";
 
 /// Faults of the process, which no answer alone shows.
 const OF_PROCESS: [&str; 6] =
@@ -77,6 +81,9 @@ fn the_oracle_equals_itself() {
     assert!(last.starts_with("compare: 6000 cases, ") && last.ends_with(" answers, all equal"));
     assert!(text.contains("  N with 2 decimals ") && text.contains("  C at most 65536 "), "{text}");
     assert!(text.contains("  cnpj ") && text.contains("  cpf "), "{text}");
+    let (_, pieces) = text.split_once("kinds of fields in pieces, in cases:\n").expect("a tally");
+    let numbers = |line: &str| line.split_whitespace().rev().take(3).all(|word| word.parse() != Ok(0));
+    assert!(pieces.lines().skip(1).take(38).all(numbers) && pieces.contains("  Brasil "), "{pieces}");
     assert!(!keep.exists());
 }
 
@@ -114,13 +121,77 @@ fn every_fault_is_caught() {
     let names: Vec<&str> = lines.iter().map(|line| line[0]).collect();
     let faults = faults();
     assert!(names.iter().chain(&OF_PROCESS).eq(&faults));
-    assert_eq!(faults.len(), 360);
+    assert_eq!(faults.len(), 395);
     for line in lines {
         let [name, _, differing, beside] = line[..] else { panic!("{line:?}") };
         assert_ne!(differing, "0", "{name}");
         // the totals must not be what gives the others away
         assert_eq!(beside == "0", name.contains("total"), "{name}");
     }
+}
+
+/// Faults of a way by which whole fields and lines are passed at once. Each shows
+/// where a file comes whole, and none byte by byte, where only the exact way judges.
+const OF_WHOLE_ONES: [&str; 26] = [
+    "whole-field-control-byte-32",
+    "whole-field-control-byte-19",
+    "whole-field-decimals-32",
+    "whole-field-decimals-19",
+    "whole-field-nine-digits-32",
+    "whole-field-nine-digits-19",
+    "whole-field-check-digit-32",
+    "whole-field-check-digit-19",
+    "whole-field-no-such-date",
+    "whole-field-colon-is-digit",
+    "whole-field-slash-is-digit",
+    "whole-field-high-bit-is-lost",
+    "whole-line-text-too-long",
+    "whole-line-unknown-code",
+    "whole-line-any-parent",
+    "whole-line-after-opening-1",
+    "whole-line-field-missing",
+    "whole-line-field-too-many",
+    "whole-line-without-cr",
+    "whole-line-untrue-count",
+    "whole-lines-no-occurrence",
+    "whole-lines-no-period",
+    "whole-lines-no-statement",
+    "whole-lines-not-numbered",
+    "whole-lines-counted-once",
+    "total-of-whole-lines-once",
+];
+
+/// Faults that show neither in whole files nor byte by byte, but where a piece ends
+/// so many bytes behind the start of a field.
+const OF_THE_MARGIN: [&str; 4] = [
+    "field-32-before-the-end-passes",
+    "field-31-before-the-end-passes",
+    "field-19-before-the-end-passes",
+    "field-18-before-the-end-passes",
+];
+
+/// Faults at a cut, which no whole file shows.
+const OF_CUTS: [&str; 2] = ["length-of-last-part", "field-lost-at-its-bar"];
+
+/// In how many of the files that pieces are cut around each of these faults shows, if
+/// they come in pieces of this sort.
+fn shown_in(pieces: &str, faults: &[&str]) -> Vec<usize> {
+    let mut process = Command::new(STAND_IN);
+    process.args(["--caught-in", pieces, "1", ASKED_RUN]).args(faults);
+    let said = text(&process.output().expect("the stand-in runs"));
+    let lines: Vec<(&str, &str)> = said.lines().filter_map(|line| line.split_once(' ')).collect();
+    assert!(lines.iter().map(|line| line.0).eq(faults.iter().copied()), "{said}");
+    lines.iter().map(|line| line.1.parse().expect("a number")).collect()
+}
+
+#[test]
+fn faults_show_in_pieces_of_their_sort_only() {
+    let shows = |pieces: &str, faults: &[&str]| shown_in(pieces, faults).iter().all(|&cases| cases > 0);
+    let hides = |pieces: &str, faults: &[&str]| shown_in(pieces, faults).iter().all(|&cases| cases == 0);
+    assert!(shows("whole", &OF_WHOLE_ONES) && hides("bytes", &OF_WHOLE_ONES));
+    assert!(hides("whole", &OF_THE_MARGIN) && hides("bytes", &OF_THE_MARGIN));
+    assert!(shows("planned", &OF_THE_MARGIN));
+    assert!(hides("whole", &OF_CUTS) && shows("bytes", &OF_CUTS) && shows("planned", &OF_CUTS));
 }
 
 #[test]
@@ -153,6 +224,8 @@ fn faults_are_caught_with_other_seeds() {
         ("65th-period-stands", "21"),
         ("periods-forgotten-at-cut", "22"),
         ("20-at-lf", "23"),
+        ("whole-field-decimals-19", "24"),
+        ("field-lost-at-its-bar", "25"),
     ] {
         assert_caught(fault, &["--cases", SHORT_RUN, "--seed", seed]);
     }
@@ -163,7 +236,7 @@ fn faults_are_caught_with_other_seeds() {
 #[test]
 fn kinds_that_do_not_come_up_are_named() {
     let program = format!("{STAND_IN} any-volume");
-    let output = compare(&program, &kept("any-volume-named"), &["--cases", SHORT_RUN]);
+    let output = compare(&program, &kept("any-volume-named"), &["--cases", ASKED_RUN]);
     assert_eq!(output.status.code(), Some(1));
     let text = text(&output);
     assert!(text.contains("FAILURE: N with 3 decimals never refused by 10"), "{text}");
@@ -174,7 +247,7 @@ fn kinds_that_do_not_come_up_are_named() {
 fn check_digits_that_are_never_refused_are_named() {
     for (fault, named) in [("any-check-digits", "cnpj"), ("any-check-digits-in-cpf", "cpf")] {
         let program = format!("{STAND_IN} {fault}");
-        let output = compare(&program, &kept(&format!("{fault}-named")), &["--cases", SHORT_RUN]);
+        let output = compare(&program, &kept(&format!("{fault}-named")), &["--cases", ASKED_RUN]);
         assert_eq!(output.status.code(), Some(1));
         let text = text(&output);
         assert!(text.contains(&format!("FAILURE: {named} never refused by 24")), "{text}");

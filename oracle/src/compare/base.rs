@@ -30,6 +30,29 @@ pub enum Feed {
     ThroughStatements,
     /// Cut at every byte of the last line with a period.
     ThroughPeriods,
+    /// Whole, and in pieces that begin and end at every byte near here.
+    Around(Around),
+    /// In pieces of one line, of several, and of each of some sizes, with a report
+    /// after each piece.
+    InRuns,
+    /// In pieces of each of some sizes: of this one and greater ones throughout,
+    /// of smaller ones only where something changes.
+    InEvenPieces { from: usize },
+}
+
+/// Where a field or a whole line stands that pieces are cut around.
+#[derive(Clone, Copy, PartialEq, Eq, Debug)]
+pub struct Around {
+    /// The first byte of the line.
+    pub line: usize,
+    /// The first byte of the field; of a whole line the same.
+    pub start: usize,
+    /// The bar after the field, or the line's last byte.
+    pub last: usize,
+    /// The byte after the line.
+    pub line_end: usize,
+    /// Whether a piece also begins close before it and ends close behind.
+    pub closely: bool,
 }
 
 /// A file fed in a case, and what it is about.

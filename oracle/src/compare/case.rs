@@ -7,7 +7,10 @@ use super::cuts::{
     cut_file, cut_simply, cut_through_field, cut_through_lines, cut_through_periods,
     cut_through_statements,
 };
-use super::feed::commands;
+use super::cuts_around::cut_around;
+use super::even_pieces::cut_evenly;
+use super::feed::{bare_commands, commands, reporting_commands};
+use super::runs::cut_into_runs;
 use super::sweep::Swept;
 use crate::generate::Random;
 
@@ -27,11 +30,17 @@ pub struct Case {
 pub struct Plan {
     seed: u64,
     swept: Swept,
+    throughout: bool,
 }
 
 impl Plan {
     pub fn new(seed: u64) -> Self {
-        Plan { seed, swept: Swept::new(Random::mixed(seed)) }
+        Plan { seed, swept: Swept::new(Random::mixed(seed)), throughout: false }
+    }
+
+    /// The same, but long files come in small pieces from their start to their end.
+    pub fn throughout(self) -> Self {
+        Plan { throughout: true, ..self }
     }
 
     /// How many cases it takes to have all swept files among them.
@@ -53,10 +62,13 @@ impl Plan {
         self.swept.get(place)
     }
 
-    /// The numbers of the cases with a swept file of more than so many bytes.
+    /// The numbers of the cases with a swept file of more than so many bytes, but for
+    /// those in even pieces: a checker that reads all bytes anew for each piece would
+    /// take too long over them.
     pub fn cases_longer_than(&self, bytes: usize) -> Vec<usize> {
+        let is_even = |file: &File| matches!(file.feed, Feed::InEvenPieces { .. });
         let is_long = |&number: &usize| {
-            self.swept(number).is_some_and(|file| file.bytes.len() > bytes)
+            self.swept(number).is_some_and(|file| file.bytes.len() > bytes && !is_even(file))
         };
         (0..self.full()).filter(is_long).collect()
     }
@@ -64,10 +76,13 @@ impl Plan {
     pub fn case(&self, number: usize) -> Case {
         let seed = self.case_seed(number);
         let mut random = Random::from_seed(seed);
-        let file = match self.swept(number) {
+        let mut file = match self.swept(number) {
             Some(file) => file.clone(),
             None => chance_file(&mut random),
         };
+        if self.throughout && matches!(file.feed, Feed::InEvenPieces { .. }) {
+            file.feed = Feed::InEvenPieces { from: 1 };
+        }
         let simple = match file.feed {
             Feed::MostlyShort => random.percent(94),
             Feed::Plainly => true,
@@ -109,19 +124,30 @@ fn made_case(number: usize, seed: u64, file: File, mut random: Random, simple: b
         (Feed::ThroughLines, _) => cut_through_lines(&file.bytes),
         (Feed::ThroughStatements, _) => cut_through_statements(&file.bytes),
         (Feed::ThroughPeriods, _) => cut_through_periods(&file.bytes),
+        (Feed::Around(around), _) => cut_around(&file.bytes, around),
+        (Feed::InRuns, _) => cut_into_runs(&file.bytes),
+        (Feed::InEvenPieces { from }, _) => cut_evenly(&file.bytes, from),
         (_, true) => cut_simply(&mut random, &file.bytes),
         (_, false) => cut_file(&mut random, &file.bytes),
     };
-    let long_end = file.feed != Feed::Plainly && (!simple || random.percent(10));
-    let commands = commands(&mut random, &file.bytes, rounds, long_end);
+    let commands = match file.feed {
+        Feed::Around(_) | Feed::InEvenPieces { .. } => bare_commands(rounds),
+        Feed::InRuns => reporting_commands(rounds),
+        feed => {
+            let long_end = feed != Feed::Plainly && (!simple || random.percent(10));
+            commands(&mut random, &file.bytes, rounds, long_end)
+        }
+    };
     Case { number, seed, about: format!("{}; {way}", file.about), commands }
 }
 
 #[cfg(test)]
 mod tests {
     use super::*;
+    use crate::compare::even_pieces::SIZES;
     use crate::compare::options::DEFAULT_CASES;
-    use crate::compare::{expected_texts, LONGEST_PIECE};
+    use crate::compare::{answer_text, expected_texts, with_totals, LONGEST_PIECE};
+    use crate::judgement;
     use crate::kinds::{kind, places, Role};
     use crate::rows::rows;
 
@@ -212,11 +238,17 @@ mod tests {
             "cut through the lines",
             "cut through the statements",
             "cut through the periods",
+            "cut around it",
+            "runs of lines",
         ];
         let texts: Vec<String> = cases().map(|case| case.about).collect();
         for way in ways {
             let count = texts.iter().filter(|text| text.ends_with(&format!("; {way}"))).count();
-            let least = if way == "cut through the statements" { 10 } else { 50 };
+            let least = match way {
+                "cut through the statements" => 10,
+                "runs of lines" => 2,
+                _ => 50,
+            };
             assert!(count > least, "{way}: {count}");
         }
     }
@@ -250,6 +282,68 @@ mod tests {
         let longest = |command: &Command| command.length() == LONGEST_PIECE;
         assert_eq!(cases.len(), 4);
         assert!(cases.iter().all(|case| case.commands.iter().any(longest)));
+    }
+
+    /// Every long file comes in pieces of each size, the last piece of a run aside.
+    #[test]
+    fn long_files_have_pieces_of_each_size() {
+        let plan = Plan::new(5);
+        let is_even = |&number: &usize| {
+            let file = plan.swept(number);
+            file.is_some_and(|file| matches!(file.feed, Feed::InEvenPieces { .. }))
+        };
+        let numbers: Vec<usize> = (0..plan.full()).filter(is_even).collect();
+        // 19 with long fields, 4 with many lines, 30 with some 990 lines of a row
+        assert_eq!(numbers.len(), 19 + 4 + 30);
+        for number in numbers {
+            let Case { about, commands, .. } = plan.case(number);
+            let rounds: Vec<&[Command]> =
+                commands.split(|command| *command == Command::New).skip(1).collect();
+            assert_eq!(rounds.len(), SIZES.len(), "{about}");
+            for (size, round) in SIZES.into_iter().zip(rounds) {
+                let length = round.iter().map(Command::length).sum::<usize>();
+                let of_size = round.iter().filter(|command| command.length() == size).count();
+                let wanted = (120 / size).max(1).min(length / size);
+                assert!(of_size >= wanted, "{about} {size} {of_size}");
+            }
+        }
+    }
+
+    #[test]
+    fn a_long_file_in_small_pieces_throughout() {
+        let plan = Plan::new(5).throughout();
+        let is_even = |file: &File| matches!(file.feed, Feed::InEvenPieces { from } if from > 1);
+        let number = (0..plan.full()).find(|&number| plan.swept(number).is_some_and(is_even)).unwrap();
+        let commands = plan.case(number).commands;
+        let rounds = commands.split(|command| *command == Command::New).skip(1);
+        for (size, round) in SIZES.into_iter().zip(rounds) {
+            let lengths: Vec<usize> = round.iter().map(Command::length).filter(|&n| n > 0).collect();
+            let (last, others) = lengths.split_last().unwrap();
+            assert!(others.iter().all(|&length| length == size) && *last <= size, "{size}");
+        }
+    }
+
+    /// What is expected in small pieces is what the bytes so far come to by themselves.
+    #[test]
+    fn answers_to_long_files_in_small_pieces() {
+        let plan = Plan::new(5);
+        let about = |number: &usize| plan.swept(*number).map(|file| (&file.about[..], file.feed));
+        let wanted = ("990 8535 and one under a new parent", Feed::InEvenPieces { from: 1 });
+        let number = (0..plan.full()).find(|number| about(number) == Some(wanted)).unwrap();
+        let mut joined = Vec::new();
+        for (place, (command, text)) in answered(&plan.case(number)).into_iter().enumerate() {
+            match command {
+                Command::New => joined.clear(),
+                Command::Piece(piece) => joined.extend_from_slice(piece),
+                _ => continue,
+            }
+            if place % 997 == 1 {
+                let judged = judgement(&joined);
+                let answer = answer_text(judged.verdict.into());
+                assert_eq!(text, with_totals(answer, &judged.totals));
+            }
+        }
+        assert!(joined.len() > 15_000);
     }
 
     #[test]

@@ -177,7 +177,7 @@ fn whole(random: &mut Random, bytes: &[u8]) -> Pieces {
 
 /// Pieces between these places, which must be in order. Two places alike give
 /// an empty piece; what is longer than a piece can be is cut further.
-fn cut_at(bytes: &[u8], places: &[usize]) -> Pieces {
+pub(super) fn cut_at(bytes: &[u8], places: &[usize]) -> Pieces {
     let mut pieces = Pieces::new();
     let mut start = 0;
     for &end in places.iter().chain([&bytes.len()]) {
@@ -242,7 +242,7 @@ fn cut_place(random: &mut Random, bytes: &[u8]) -> usize {
     bytes[place..].iter().position(|&byte| byte == after).map_or(place, |found| place + found + 1)
 }
 
-fn bytes_judged(bytes: &[u8]) -> usize {
+pub(super) fn bytes_judged(bytes: &[u8]) -> usize {
     match verdict(bytes) {
         Verdict::Open { bytes, .. } | Verdict::Refused { bytes, .. } => bytes as usize,
     }

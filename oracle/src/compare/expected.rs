@@ -1,16 +1,42 @@
 //! What the program must answer to each command: the oracle's judgement of
-//! the bytes joined so far. Judgements are kept while a case lasts, since
-//! its rounds feed the same bytes again and again.
+//! the bytes joined so far. The rounds of a case mostly feed the same file, which
+//! is then read once for all their answers.
 
 use super::command::Command;
 use super::text::{answer_text, counts_text, with_totals};
-use crate::{judgement, Answer, Judgement};
-use std::collections::HashMap;
+use crate::{Answer, Beginnings};
 
 /// The answers to a case's commands, in order; `New` has none.
 pub fn expected_texts(commands: &[Command]) -> Vec<String> {
-    let mut expected = Expected::default();
-    commands.iter().filter_map(|command| expected.answer(command)).collect()
+    let mut texts = Vec::new();
+    let mut file = Vec::new();
+    let mut beginnings = Beginnings::of(&file);
+    for round in rounds(commands) {
+        let fed = bytes_in_time(round);
+        if fed != file {
+            beginnings = Beginnings::of(&fed);
+            file = fed;
+        }
+        beginnings.start_anew();
+        let mut expected = Expected { beginnings: &mut beginnings, finished: false };
+        texts.extend(round.iter().map(|command| expected.answer(command)));
+    }
+    texts
+}
+
+/// The commands for each file, `New` left out.
+pub fn rounds(commands: &[Command]) -> impl Iterator<Item = &[Command]> {
+    commands.split(|command| *command == Command::New)
+}
+
+/// The bytes of a round that come before a finish.
+pub fn bytes_in_time(round: &[Command]) -> Vec<u8> {
+    pieces_in_time(round).collect::<Vec<&[u8]>>().concat()
+}
+
+pub fn pieces_in_time(round: &[Command]) -> impl Iterator<Item = &[u8]> {
+    let in_time = round.iter().take_while(|command| **command != Command::Finish);
+    in_time.filter(|command| matches!(command, Command::Piece(_))).map(Command::bytes)
 }
 
 /// The number of the first finish's refusal, 0 if it accepts. The texts are
@@ -26,47 +52,34 @@ pub fn first_final(commands: &[Command], texts: &[String]) -> usize {
     }
 }
 
-#[derive(Default)]
-struct Expected {
-    joined: Vec<u8>,
+struct Expected<'a> {
+    beginnings: &'a mut Beginnings,
     finished: bool,
-    known: HashMap<Vec<u8>, Judgement>,
 }
 
-impl Expected {
-    fn answer(&mut self, command: &Command) -> Option<String> {
+impl Expected<'_> {
+    fn answer(&mut self, command: &Command) -> String {
+        if let (Command::Piece(piece), false) = (command, self.finished) {
+            self.beginnings.grow(piece.len());
+        }
+        let judged = self.beginnings.judgement();
         let text = match command {
-            Command::New => {
-                self.joined.clear();
-                self.finished = false;
-                return None;
-            }
+            Command::New => unreachable!("rounds are cut there"),
             Command::Piece(_) | Command::Finish if self.finished => {
                 answer_text(Answer::misuse(17))
             }
-            Command::Piece(piece) => {
-                self.joined.extend_from_slice(piece);
-                answer_text(self.judgement().verdict.into())
-            }
+            Command::Piece(_) => answer_text(judged.verdict.into()),
             Command::Finish => {
                 self.finished = true;
-                answer_text(self.judgement().at_finish.into())
+                answer_text(judged.at_finish.into())
             }
             Command::Counts => {
-                let judged = self.judgement();
                 let (lines, bytes) = Answer::from(judged.verdict).lines_and_bytes();
                 counts_text(lines, bytes, &judged.counts)
             }
             Command::ShortCounts => answer_text(Answer::misuse(18)),
         };
-        Some(with_totals(text, &self.judgement().totals))
-    }
-
-    fn judgement(&mut self) -> &Judgement {
-        if !self.known.contains_key(&self.joined) {
-            self.known.insert(self.joined.clone(), judgement(&self.joined));
-        }
-        &self.known[&self.joined]
+        with_totals(text, &judged.totals)
     }
 }
 
@@ -74,6 +87,7 @@ impl Expected {
 mod tests {
     use super::*;
     use crate::compare::base::BASE;
+    use crate::Checker;
 
     fn piece(text: &str) -> Command {
         Command::Piece(text.as_bytes().to_vec())
@@ -162,6 +176,35 @@ mod tests {
         ];
         let wanted = commands.map(|(command, text, totals)| (command, line(text, totals)));
         assert_answers(wanted.to_vec());
+    }
+
+    /// By the checker that joins the pieces and judges them anew each time.
+    #[test]
+    fn answers_of_the_checker() {
+        let plan = crate::compare::Plan::new(3);
+        for number in (0..600).chain(5000..5300) {
+            let commands = plan.case(number).commands;
+            let mut texts = expected_texts(&commands).into_iter();
+            let mut checker = Checker::default();
+            for command in &commands {
+                let answer = match command {
+                    Command::New => {
+                        checker = Checker::default();
+                        continue;
+                    }
+                    Command::Piece(piece) => answer_text(checker.piece(piece)),
+                    Command::Finish => answer_text(checker.finish()),
+                    Command::ShortCounts => answer_text(checker.report(&mut [0; 133]).unwrap_err()),
+                    Command::Counts => {
+                        let mut counts = [0; 134];
+                        let (lines, bytes) = checker.report(&mut counts).unwrap();
+                        counts_text(lines, bytes, &counts)
+                    }
+                };
+                assert_eq!(texts.next(), Some(with_totals(answer, &checker.totals())));
+            }
+            assert_eq!(texts.next(), None);
+        }
     }
 
     #[test]

@@ -36,6 +36,27 @@ pub fn commands(
     commands
 }
 
+/// Nothing but the pieces of each round, as there are many, and at the end of the
+/// last one a report, finish and a report.
+pub fn bare_commands(rounds: Vec<Pieces>) -> Vec<Command> {
+    let mut commands = Vec::new();
+    for pieces in rounds {
+        commands.push(Command::New);
+        commands.extend(pieces_of(pieces));
+    }
+    commands.extend([Command::Counts, Command::Finish, Command::Counts]);
+    commands
+}
+
+/// The same with a report after each piece.
+pub fn reporting_commands(rounds: Vec<Pieces>) -> Vec<Command> {
+    let with_report = |command: Command| match command {
+        Command::Piece(_) => vec![command, Command::Counts],
+        other => vec![other],
+    };
+    bare_commands(rounds).into_iter().flat_map(with_report).collect()
+}
+
 fn pieces_of(pieces: Pieces) -> Vec<Command> {
     pieces.into_iter().map(Command::Piece).collect()
 }
@@ -115,4 +136,21 @@ fn any_piece(random: &mut Random, bytes: &[u8]) -> Command {
         4 => start.to_vec(),
         _ => random.text(5),
     })
+}
+
+#[cfg(test)]
+mod tests {
+    use super::*;
+
+    #[test]
+    fn commands_of_many_rounds() {
+        let piece = |byte: u8| Command::Piece(vec![byte]);
+        let rounds = vec![vec![vec![1], vec![2]], vec![vec![3]]];
+        let end = [Command::Counts, Command::Finish, Command::Counts];
+        let bare = [&[Command::New, piece(1), piece(2), Command::New, piece(3)], &end[..]].concat();
+        assert_eq!(bare_commands(rounds.clone()), bare);
+        let reporting = reporting_commands(rounds);
+        assert_eq!(reporting.len(), bare.len() + 3);
+        assert_eq!(reporting[3..6], [piece(2), Command::Counts, Command::New]);
+    }
 }

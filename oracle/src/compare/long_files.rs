@@ -1,7 +1,11 @@
 //! Long files: C300 at and past its limit, more lines than 16 bits hold,
 //! fields longer than a piece can be.
 
-use super::base::{bare, base_field, base_until, block_start_with, file, written, File, BASE};
+use super::base::{
+    bare, base_field, base_until, block_start_with, file, written, Feed, File, BASE,
+};
+use super::command::LONGEST_PIECE;
+use super::even_pieces::SIZES;
 use super::known_statements::stating;
 use crate::generate::place_cases::block_file;
 use crate::generate::Random;
@@ -9,6 +13,30 @@ use crate::generate::Random;
 pub fn long_files() -> Vec<File> {
     [many_lines(), long_fields()].concat()
 }
+
+/// All of them once more, cut into pieces of each of some sizes. So many pieces go
+/// with the smallest that only two files have these throughout, one in which a line
+/// is refused and one that stands; all of them do if asked for (`Plan::throughout`).
+pub fn long_files_in_pieces(random: &mut Random) -> Vec<File> {
+    let in_pieces = |from: fn(&File) -> usize| {
+        move |file: File| File { feed: Feed::InEvenPieces { from: from(&file) }, ..file }
+    };
+    let of_fields = long_fields().into_iter().map(in_pieces(|_| MIDDLE));
+    // but for their ends they are the same
+    let of_lines = many_lines().into_iter().map(in_pieces(|file| match file.about.as_str() {
+        "65540 lines of 0025" => MIDDLE,
+        _ => LONGEST_PIECE,
+    }));
+    let of_990 = rows_of_990(random).into_iter().map(in_pieces(|file| match file.about.as_str() {
+        "991 C300 in a run" | "990 8535 and one under a new parent" => 1,
+        about if about.ends_with("in a run") => MIDDLE,
+        _ => LONGEST_PIECE,
+    }));
+    of_fields.chain(of_lines).chain(of_990).collect()
+}
+
+/// The smallest size but for one and two bytes.
+const MIDDLE: usize = SIZES[2];
 
 /// The two rows that may come 990 times, with their parent, the way down to it,
 /// and lines that may stand between.

@@ -2,12 +2,15 @@
 //! answers this checker expects to each of their commands, and the run that
 //! feeds the program and compares all it answers.
 
+mod around_values;
 mod base;
 mod case;
 mod chance;
 mod command;
 mod cuts;
+mod cuts_around;
 mod difference;
+mod even_pieces;
 mod expected;
 mod feed;
 mod field_values;
@@ -22,9 +25,12 @@ mod near_periods;
 mod options;
 mod outcome;
 mod period_lines;
+mod piece_tally;
 mod program;
 mod run;
+mod runs;
 mod sweep;
+mod sweep_around;
 mod sweep_blocks;
 mod sweep_bytes;
 mod sweep_check_digits;
@@ -37,6 +43,7 @@ mod sweep_places;
 mod sweep_positions;
 mod sweep_rows;
 mod sweep_statements;
+mod sweep_whole_lines;
 mod text;
 
 pub use case::{Case, Plan};

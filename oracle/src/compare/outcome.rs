@@ -1,6 +1,7 @@
 //! What a run came to.
 
 use super::kind_tally::KindTally;
+use super::piece_tally::PieceTally;
 
 /// Every refusal number that some case must end with.
 const NUMBERS: [usize; 19] =
@@ -14,6 +15,8 @@ pub struct Outcome {
     pub finals: [usize; 25],
     /// What came up of each kind of field, in cases without a difference.
     pub kinds: KindTally,
+    /// The same of how its fields stood in pieces.
+    pub pieces: PieceTally,
     /// From this many cases on, all that can come up of each kind must have.
     pub cases_with_kinds: usize,
     /// Cases with an answer that differs.
@@ -24,7 +27,7 @@ pub struct Outcome {
 
 impl Outcome {
     pub fn is_good(&self) -> bool {
-        let kinds_met = self.is_short() || self.kinds.missing().is_empty();
+        let kinds_met = self.is_short() || self.missing_kinds().is_empty();
         let all_met = self.missing().is_empty() && kinds_met;
         self.differing == 0 && self.complaints.is_empty() && all_met
     }
@@ -32,6 +35,10 @@ impl Outcome {
     /// Whether it had too few cases for every kind to come up.
     fn is_short(&self) -> bool {
         self.cases < self.cases_with_kinds
+    }
+
+    fn missing_kinds(&self) -> Vec<String> {
+        [self.kinds.missing(), self.pieces.missing()].concat()
     }
 
     fn missing(&self) -> Vec<usize> {
@@ -46,6 +53,7 @@ impl Outcome {
             println!("  refused {number:2} {:6}", self.finals[number]);
         }
         self.kinds.print();
+        self.pieces.print();
         self.print_missing_kinds();
         if !self.missing().is_empty() {
             println!("FAILURE: no case ended with {:?}", self.missing());
@@ -65,7 +73,7 @@ impl Outcome {
             println!("a short run: from {} cases on, each kind must come up", self.cases_with_kinds);
         }
         let what = if self.is_short() { "not shown" } else { "FAILURE" };
-        self.kinds.missing().iter().for_each(|missing| println!("{what}: {missing}"));
+        self.missing_kinds().iter().for_each(|missing| println!("{what}: {missing}"));
     }
 }
 
@@ -74,6 +82,7 @@ mod tests {
     use super::*;
     use crate::compare::case::Plan;
     use crate::compare::kind_tally::met_in_case;
+    use crate::compare::piece_tally::ways_in_case;
 
     /// The outcome of that many cases, all answered rightly, with every number.
     fn outcome(cases: usize, cases_with_kinds: usize) -> Outcome {
@@ -86,6 +95,22 @@ mod tests {
         assert!(!outcome(300, 300).is_good());
     }
 
+    /// Each of the two tallies is asked.
+    #[test]
+    fn a_kind_that_was_not_met_in_each_way_fails_a_run() {
+        let plan = Plan::new(1);
+        let cases = plan.cases_with_kinds();
+        let mut outcomes = [outcome(cases, cases), outcome(cases, cases)];
+        for number in 0..cases {
+            let commands = plan.case(number).commands;
+            outcomes[0].kinds.add(met_in_case(&commands));
+            outcomes[1].pieces.add(ways_in_case(&commands));
+        }
+        let missing = outcomes.each_ref().map(Outcome::missing_kinds);
+        assert!(missing[0].iter().all(|text| text.contains(" never met ")) && !outcomes[0].is_good());
+        assert!(!missing[1].iter().any(|text| text.contains(" never met ")) && !outcomes[1].is_good());
+    }
+
     #[test]
     fn every_kind_has_come_up_by_then() {
         for seed in 0..6 {
@@ -93,9 +118,11 @@ mod tests {
             let cases = plan.cases_with_kinds();
             let mut outcome = outcome(cases, cases);
             for number in 0..cases {
-                outcome.kinds.add(met_in_case(&plan.case(number).commands));
+                let commands = plan.case(number).commands;
+                outcome.kinds.add(met_in_case(&commands));
+                outcome.pieces.add(ways_in_case(&commands));
             }
-            assert!(outcome.is_good(), "seed {seed}: {:?}", outcome.kinds.missing());
+            assert!(outcome.is_good(), "seed {seed}: {:?}", outcome.missing_kinds());
         }
     }
 }

@@ -9,6 +9,7 @@ use super::expected::{expected_texts, first_final};
 use super::kind_tally::met_in_case;
 use super::options::Options;
 use super::outcome::Outcome;
+use super::piece_tally::ways_in_case;
 use super::program::Program;
 use std::io::{self, Write};
 use std::process::ChildStdin;
@@ -21,7 +22,10 @@ const MOST_SAVED: usize = 50;
 
 pub fn run(options: &Options) -> io::Result<Outcome> {
     let (mut program, to_program) = Program::start(&options.program)?;
-    let plan = Plan::new(options.seed);
+    let mut plan = Plan::new(options.seed);
+    if options.throughout {
+        plan = plan.throughout();
+    }
     let mut outcome = Outcome { cases_with_kinds: plan.cases_with_kinds(), ..Outcome::default() };
     let cases = options.cases;
     // the queue has no limit: the program may take in much before it answers
@@ -60,6 +64,7 @@ fn compare_cases(
         if got == expected {
             outcome.finals[first_final(&case.commands, &expected)] += 1;
             outcome.kinds.add(met_in_case(&case.commands));
+            outcome.pieces.add(ways_in_case(&case.commands));
         } else {
             outcome.differing += 1;
             report(&Difference { case: &case, expected: &expected, got: &got }, options, outcome)?;

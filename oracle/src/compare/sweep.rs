@@ -3,7 +3,8 @@
 
 use super::base::File;
 use super::known::known_files;
-use super::long_files::{long_files, rows_of_990};
+use super::long_files::{long_files, long_files_in_pieces, rows_of_990};
+use super::sweep_around::{first_around, others_around};
 use super::sweep_blocks::block_files;
 use super::sweep_bytes::byte_files;
 use super::sweep_check_digits::check_digit_files;
@@ -16,11 +17,13 @@ use super::sweep_places::place_files;
 use super::sweep_positions::position_files;
 use super::sweep_rows::row_files;
 use super::sweep_statements::statement_files;
+use super::sweep_whole_lines::whole_line_files;
 use crate::generate::Random;
 use std::sync::OnceLock;
 
 /// The known ones and those of each kind first, then all others in an order
-/// made by chance, so that a short run has some of every sort.
+/// made by chance, so that a short run has some of every sort. Long files in small
+/// pieces come last, as a short run can do without them.
 pub struct Swept {
     first: Vec<File>,
     /// So many of the first of them show all that must come up of each kind.
@@ -32,9 +35,15 @@ pub struct Swept {
 
 impl Swept {
     pub fn new(mut random: Random) -> Self {
-        let known = [known_files(), kind_files(&mut random)].concat();
-        let with_kinds = known.len();
-        let first = [known, rows_of_990(&mut random)].concat();
+        let first = [
+            known_files(),
+            kind_files(&mut random),
+            rows_of_990(&mut random),
+            first_around(),
+            whole_line_files(),
+        ]
+        .concat();
+        let with_kinds = first.len();
         Swept { first, with_kinds, others: OnceLock::new(), random }
     }
 
@@ -72,11 +81,13 @@ fn other_files(random: &mut Random) -> Vec<File> {
         position_files(random),
         block_files(random),
         pair_files(),
+        others_around(),
     ]
     .concat();
     for place in (1..others.len()).rev() {
         others.swap(place, random.below(place + 1));
     }
+    others.extend(long_files_in_pieces(random));
     others
 }
 

@@ -1,6 +1,9 @@
 //! stand-in --caught SEED CASES: which faults show in so many cases and in the
 //! longest ones. The cases and the answers expected are made once for all
 //! faults, so that this takes far less time than a comparison for each.
+//! stand-in --caught-in PIECES SEED CASES FAULT...: whether these show in the files
+//! among the cases that pieces are cut around, if they come in pieces of another
+//! sort: `planned`, `whole` or `bytes`.
 
 use crate::fault::{Fault, FAULTS, NONE};
 use crate::faulty::Faulty;
@@ -14,6 +17,9 @@ const ENOUGH_OF_TOTALS: usize = 20;
 
 /// Files with more bytes than this are fed where nothing else shows a fault.
 const LONG: usize = 200_000;
+
+/// And with no more than this in other pieces than planned.
+const SHORT: usize = 230;
 
 struct Asked {
     commands: Vec<Command>,
@@ -38,9 +44,46 @@ pub fn print_caught(seed: u64, cases: usize) {
 }
 
 fn asked(plan: &Plan, number: usize) -> Asked {
-    let commands = plan.case(number).commands;
+    asked_with(plan.case(number).commands)
+}
+
+fn asked_with(commands: Vec<Command>) -> Asked {
     let expected = expected_texts(&commands);
     Asked { commands, expected }
+}
+
+/// Prints for each of these faults in how many cases an answer differs.
+pub fn print_caught_in(pieces: &str, seed: u64, cases: usize, faults: &[&'static Fault]) {
+    let plan = Plan::new(seed);
+    let around = (0..cases).map(|number| plan.case(number));
+    let around = around.filter(|case| case.about.ends_with("; cut around it"));
+    let commands = around.map(|case| match pieces {
+        "planned" => case.commands,
+        "whole" => in_pieces(&case.commands, usize::MAX),
+        _ => in_pieces(&case.commands, 1),
+    });
+    // a checker that reads all bytes anew for each piece takes long over the others
+    let short = commands.filter(|commands| joined(commands).len() <= SHORT);
+    let asked: Vec<Asked> = short.map(asked_with).collect();
+    for fault in faults {
+        let differs = |asked: &&Asked| differences(fault, std::slice::from_ref(*asked))[1] > 0;
+        println!("{} {}", fault.name, asked.iter().filter(differs).count());
+    }
+}
+
+/// The bytes of the last round.
+fn joined(commands: &[Command]) -> Vec<u8> {
+    let start = commands.iter().rposition(|command| *command == Command::New).unwrap_or(0);
+    commands[start..].iter().flat_map(Command::bytes).copied().collect()
+}
+
+/// The file in one round, its pieces of this size.
+fn in_pieces(commands: &[Command], size: usize) -> Vec<Command> {
+    let file = joined(commands);
+    let mut commands = vec![Command::New];
+    commands.extend(file.chunks(size).map(|piece| Command::Piece(piece.to_vec())));
+    commands.extend([Command::Counts, Command::Finish, Command::Counts]);
+    commands
 }
 
 fn differences(fault: &'static Fault, asked: &[Asked]) -> [usize; 3] {

@@ -5,7 +5,7 @@ use crate::told::Told;
 use crate::{
     check_digits, counts, forgives, forgives_fields, joins, late_blocks, lost_totals, orders,
     period_answers, period_keys, period_lines, positions, refuses_fields, says, sees,
-    statement_answers, statements, totals,
+    statement_answers, statements, totals, whole_fields, whole_lines,
 };
 use oracle::rows::Counts;
 use oracle::{Answer, Totals};
@@ -27,6 +27,8 @@ pub struct Fault {
     /// The counts of its report, given the bytes it saw and whether finish was
     /// asked.
     pub counts: fn(&[u8], bool) -> Counts,
+    /// What it makes of them, given all bytes and where each piece began.
+    pub counts_of_pieces: fn(&[u8], &[usize], Counts) -> Counts,
     /// The report's lines and bytes, given all bytes, what it says of them and
     /// whether finish was asked.
     pub numbers: fn(&[u8], Answer, bool) -> (u64, u64),
@@ -49,6 +51,7 @@ pub const NONE: Fault = Fault {
     position: |told| told.position,
     totals: |shown| shown.totals(),
     counts: |bytes, _| oracle::counts(bytes),
+    counts_of_pieces: |_, _, counts| counts,
     numbers: |_, answer, _| answer.lines_and_bytes(),
     no_room: |_| Answer::misuse(18),
     ends_with: |_| true,
@@ -89,7 +92,7 @@ const fn numbering(name: &'static str, numbers: fn(&[u8], Answer, bool) -> (u64,
     Fault { name, numbers, ..NONE }
 }
 
-pub const FAULTS: [Fault; 354] = [
+pub const FAULTS: [Fault; 389] = [
     joining("loses-cr", joins::without_last_cr),
     joining("loses-cr-at-empty-piece", joins::cr_lost_at_empty_piece),
     joining("loses-code", joins::code_lost),
@@ -435,6 +438,45 @@ pub const FAULTS: [Fault; 354] = [
     totalling("totals-at-most-255", lost_totals::at_most::<255>),
     totalling("totals-in-16-bits", lost_totals::in_bits::<16>),
     totalling("totals-at-most-65535", lost_totals::at_most::<65_535>),
+    cutting("whole-field-control-byte-32", whole_fields::control_byte::<32>),
+    cutting("whole-field-control-byte-19", whole_fields::control_byte::<19>),
+    cutting("whole-field-decimals-32", whole_fields::decimals::<32>),
+    cutting("whole-field-decimals-19", whole_fields::decimals::<19>),
+    cutting("whole-field-nine-digits-32", whole_fields::nine_digits::<32>),
+    cutting("whole-field-nine-digits-19", whole_fields::nine_digits::<19>),
+    cutting("whole-field-check-digit-32", whole_fields::check_digit::<32>),
+    cutting("whole-field-check-digit-19", whole_fields::check_digit::<19>),
+    cutting("whole-field-no-such-date", whole_fields::no_such_date::<32>),
+    cutting("whole-field-colon-is-digit", whole_fields::colon),
+    cutting("whole-field-slash-is-digit", whole_fields::slash),
+    cutting("whole-field-high-bit-is-lost", whole_fields::high_bit),
+    cutting("whole-line-text-too-long", whole_lines::text_too_long),
+    cutting("whole-line-unknown-code", whole_lines::refused_by::<3>),
+    cutting("whole-line-any-parent", whole_lines::any_parent),
+    cutting("whole-line-after-opening-1", whole_lines::refused_by::<5>),
+    cutting("whole-line-field-missing", whole_lines::refused_by::<7>),
+    cutting("whole-line-field-too-many", whole_lines::refused_by::<8>),
+    cutting("whole-line-without-cr", whole_lines::refused_by::<9>),
+    cutting("whole-line-untrue-count", whole_lines::refused_by::<13>),
+    cutting("whole-lines-no-occurrence", whole_lines::no_occurrence),
+    cutting("whole-lines-no-period", whole_lines::no_period),
+    cutting("whole-lines-no-statement", whole_lines::no_statement),
+    cutting("whole-lines-not-numbered", whole_lines::not_numbered),
+    Fault { name: "whole-lines-counted-once", counts_of_pieces: whole_lines::counted_once, ..NONE },
+    totalling("total-of-whole-lines-once", whole_lines::total_once),
+    cutting("field-32-before-the-end-passes", whole_fields::at_distance::<32>),
+    cutting("field-31-before-the-end-passes", whole_fields::at_distance::<31>),
+    cutting("field-19-before-the-end-passes", whole_fields::at_distance::<19>),
+    cutting("field-18-before-the-end-passes", whole_fields::at_distance::<18>),
+    cutting("field-close-to-the-end-passes", whole_fields::close_to_the_end),
+    cutting("length-of-last-part", whole_fields::length_of_last_part),
+    joining("field-lost-at-its-bar", whole_fields::lost_at_its_bar),
+    Fault {
+        name: "line-at-piece-end-counted-twice",
+        counts_of_pieces: whole_lines::counted_twice_at_ends,
+        ..NONE
+    },
+    totalling("total-of-line-at-piece-end-twice", whole_lines::total_twice_at_ends),
     Fault { name: "forgets-17", ends_with: |_| false, ..NONE },
     Fault { name: "goes-on-after-14", ends_with: says::is_not_14, ..NONE },
     Fault { name: "room-17", no_room: |_| Answer::misuse(17), ..NONE },

@@ -112,6 +112,7 @@ impl Faulty {
 
     fn report(&self) -> String {
         let counts = (self.fault.counts)(&self.seen(), self.finished);
+        let counts = (self.fault.counts_of_pieces)(&self.all, &self.pieces, counts);
         let (lines, bytes) = (self.fault.numbers)(&self.all, self.so_far(), self.finished);
         counts_text(lines, bytes, &counts)
     }

@@ -2,7 +2,8 @@
 //! comparison itself. It answers with the oracle's own checker, or with a
 //! fault planted. `stand-in --faults` lists the faults; `stand-in no-fault`
 //! is the checker they are planted in; `stand-in --caught SEED CASES` says
-//! which of them show. `stand-in --file [FAULT]` stands in for the program that
+//! which of them show, and `stand-in --caught-in PIECES SEED CASES FAULT...` which
+//! do in pieces of one sort. `stand-in --file [FAULT]` stands in for the program that
 //! checks the file on its standard input.
 
 mod caught;
@@ -21,6 +22,7 @@ mod period_answers;
 mod period_keys;
 mod period_lines;
 mod periods;
+mod pieces;
 mod positions;
 mod refuses_fields;
 mod says;
@@ -31,6 +33,8 @@ mod statements;
 mod stating;
 mod told;
 mod totals;
+mod whole_fields;
+mod whole_lines;
 
 use fault::{Fault, FAULTS, NONE};
 use faulty::Faulty;
@@ -60,6 +64,17 @@ fn main() -> io::Result<ExitCode> {
         let mut numbers = std::env::args().skip(2).map(|word| word.parse().expect("a number"));
         let (seed, cases) = (numbers.next().expect("a seed"), numbers.next().expect("cases"));
         caught::print_caught(seed, cases as usize);
+        return Ok(ExitCode::SUCCESS);
+    }
+    if name == "--caught-in" {
+        let words: Vec<String> = std::env::args().skip(2).collect();
+        let [pieces, seed, cases, faults @ ..] = &words[..] else {
+            return Ok(ExitCode::from(2));
+        };
+        let number = |word: &String| word.parse::<usize>().expect("a number");
+        let faults: Option<Vec<&Fault>> = faults.iter().map(|name| fault_with(name)).collect();
+        let faults = faults.expect("faults there are");
+        caught::print_caught_in(pieces, number(seed) as u64, number(cases), &faults);
         return Ok(ExitCode::SUCCESS);
     }
     if name == "--file" {
