@@ -2,10 +2,3 @@ pub mod StepRanges
 pub mod StepLines
 pub mod TallyRanges
 pub mod RunLaws
-pub mod PassLaws
-pub mod PlaceLaws
-pub mod HeadLaws
-pub mod FieldPasses
-pub mod EndPasses
-pub mod AlongLaws
-pub mod LoopLaws

@@ -1,6 +1,3 @@
-// A piece of a file: whole lines and fields at once, the rest byte by byte, and what is kept where a line ends.
-mod lines;
-mod notes;
+// What is noted where a line of a piece ends, and what the piece comes to.
+pub mod notes;
 pub mod outcome;
-mod place;
-pub mod run;

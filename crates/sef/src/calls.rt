@@ -13,7 +13,7 @@ use line::hot::Hot;
 use line::order::ROW_9999;
 use line::periods::PAIRS;
 use piece::outcome::kept;
-use piece::run::run;
+use run::judge::run;
 use state::State;
 use state::Tally;
 use state::answers::Answer;
