@@ -25,7 +25,7 @@ const ROW_9990: usize = ROWS - 2;
 pub const ROW_9999: usize = ROWS - 1;
 
 // The lowest level of a data line.
-pub const DATA_LEVEL: u64 = 2;
+const DATA_LEVEL: u64 = 2;
 
 // What an opening says: data to come, or none.
 pub const WITH_DATA: u64 = 1;
