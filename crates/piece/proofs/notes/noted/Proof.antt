@@ -1,6 +1,7 @@
 use borrow.Author.Needs.{needs}
 use borrow.Author.Tests.{eq-eqb, ne-eqb}
 use mathlib.Core.Path.{refl}
+use Rattle.rules.specs.Bytes.{LF}
 use Rattle.piece.specs.Piece.{countsWith, stampsWith, occurrencesWith, pairsWith}
 use Rattle.piece.proofs.notes.noted.Statement.{statement}
 use Rattle.piece.proofs.notes.noted.Tie as tie
@@ -20,7 +21,8 @@ returns c =
     let paired = c .before .before .before .before in
     let entry = paired .before .before in
     let e = c .counted .ensures in
-    rw (eq-eqb _ _ (entry .before .before .if1 .taken))
+    let turn = entry .before .before in
+    rw (eq-eqb (turn .before .args .b) LF (turn .if1 .taken))
     (e .0, (e .1 .0, (e .1 .1, rw (← entry .entry .ensures) (paired .paired .ensures))))
 
 returns-2 : tie.Need-returns-2

@@ -1,5 +1,8 @@
 use borrow.Author.Needs.{needs}
 use borrow.Author.Tests.{eq-eqb, ne-eqb}
+use mathlib.Core.Path.{_≡_}
+use Rattle.layout.specs.Rows.{block}
+use Rattle.rules.specs.Bytes.{LF}
 use Rattle.piece.specs.Piece.{totalsWith}
 use Rattle.piece.proofs.notes.totalled.Statement.{statement}
 use Rattle.piece.proofs.notes.totalled.Tie as tie
@@ -14,7 +17,8 @@ returns : tie.Need-returns
 unfolding totalsWith
 returns c =
     let found = c .before .before in
-    rw (eq-eqb _ _ (found .before .if1 .taken), ← found .block-at .ensures) (c .raise .ensures)
+    let own : found .block-at .result ≡ block (found .before .before .args .h .row) = found .block-at .ensures in
+    rw (eq-eqb (found .before .before .args .b) LF (found .before .if1 .taken), ← own) (c .raise .ensures)
 
 returns-2 : tie.Need-returns-2
 unfolding totalsWith
