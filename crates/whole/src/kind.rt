@@ -2,7 +2,8 @@
 ghost use mathlib.Core.Bool.{true};
 ghost use mathlib.Core.Path.{_≡_};
 ghost use Prim.Native.Nat.{_+_, _-_, _≤_, _<_};
-ghost use lib.ListN.{length};
+ghost use lib.ListN.{length, getD};
+ghost use Rattle.rules.specs.Bytes.{bar};
 ghost use Rattle.whole.specs.Whole.{isQuick, longest, margin, Past};
 use crate::bar::BAR;
 use crate::numbers::amount_past;
@@ -49,9 +50,9 @@ fn is_quick(kind: u64) -> bool
 }
 
 // An empty field, whose bar stands at i: it breaks no rule of these kinds.
-fn empty_past(i: usize, kind: u64) -> usize
-    requires { ⌜ i < 18446744073709551615 ⌝ }
-    ensures { λ j. ⌜ (0 < j → (j ≡ i + 1) × (isQuick kind ≡ true)) ⌝ }
+fn empty_past(s: &[u8], i: usize, kind: u64) -> usize
+    requires { ⌜ (i + longest ≤ length (now s)) × (getD (now s) i 0 ≡ bar) ⌝ }
+    ensures { λ j. ⌜ (0 < j → Past kind (now (s .entry)) i (i + longest) j × (isQuick kind ≡ true)) ⌝ }
 {
     if !is_quick(kind) {
         return 0;
@@ -89,7 +90,7 @@ pub fn field_past(s: &[u8], i: usize, kind: u64, safe: usize) -> usize
     ensures { λ j. ⌜ (0 < j → Past kind (now (s .entry)) i (safe + longest - 1) j × (isQuick kind ≡ true)) ⌝ }
 {
     if s[i] == BAR {
-        return empty_past(i, kind);
+        return empty_past(s, i, kind);
     }
     if kind == AMOUNT {
         return amount_past(s, i);

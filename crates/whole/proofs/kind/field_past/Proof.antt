@@ -4,7 +4,6 @@ use native.Mathlib.Omega.{arith}
 use borrow.Author.Needs.{needs}
 use Rattle.whole.specs.Whole.{isQuick}
 use Rattle.whole.proofs.PastLaws.{past-farther}
-use Rattle.whole.proofs.EmptyLaws.{empty-past}
 use Rattle.whole.proofs.kind.field_past.Statement.{statement}
 use Rattle.whole.proofs.kind.field_past.Tie as tie
 
@@ -15,11 +14,7 @@ empty-past-requires : tie.Need-empty-past-requires
 empty-past-requires c κs = search needs
 
 returns : tie.Need-returns
-returns c = λ more.
-    let read = c .before in
-    let a = read .before .before .before .args in
-    let past = c .empty-past .ensures more in
-    (rw (past .0) (empty-past _ (past .1) (a .s .now) (a .i) _ (omega arith) (omega arith) (read .if1 .taken)), past .1)
+returns c = λ more. let past = c .empty-past .ensures more in (past-farther _ (omega arith) (past .0), past .1)
 
 amount-past-requires : tie.Need-amount-past-requires
 amount-past-requires c κs = search needs
