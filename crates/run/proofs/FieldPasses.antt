@@ -1,24 +1,22 @@
 -- A whole field: its bytes and its bar are steps that all go on, to the start of the next field, and nothing else changes.
 use mathlib.Core.Path.{_≡_, _∙_, refl}
-use mathlib.Core.Bool.{Bool, true, false, _||_}
-use mathlib.Core.List.{List, _∷_}
+use mathlib.Core.Bool.{true, false}
+use mathlib.Core.List.{List}
 use Prim.Native.Nat.{ℕ, zero, suc, _+_, _-_, _≤_, _<_}
 use native.Mathlib.Omega.{arith}
 use native.Mathlib.Decide.{decLt}
-use lib.Dec.{eqb, ltb, lit≤}
+use lib.Dec.{eqb, lit≤}
 use lib.ListN.{length, getD, drop, length-drop}
-use borrow.Author.Tests.{ne-eqb, eqb-false, le-ltb, lt-leb, ltb-false}
-use Rattle.layout.specs.Pick.{pick}
+use borrow.Author.Tests.{ne-eqb, eqb-false, le-ltb, lt-leb}
 use Rattle.layout.specs.Rows.{rowCount, fields, row9999}
 use Rattle.layout.specs.Kind.{date, opens}
 use Rattle.layout.specs.Kinds.{kind, fieldCount, rowStart}
 use Rattle.layout.proofs.RowLaws.{fields-two}
 use Rattle.layout.proofs.KindLaws.{fields-within, kind-most}
 use Rattle.layout.specs.Packed.{codeClass, kindNumber, mostKind, packedKinds}
-use Rattle.layout.specs.Periods.{laterDate}
-use Rattle.rules.specs.Bytes.{bar, LF}
+use Rattle.rules.specs.Bytes.{bar}
 use Rattle.rules.specs.Rules.{byteLimit}
-use Rattle.rules.proofs.TestLaws.{both, or-fails}
+use Rattle.rules.proofs.TestLaws.{both}
 use Rattle.field.specs.Streaming.{emptyField, faultOf}
 use Rattle.layout.proofs.PackedLaws.{kind-entry}
 use Rattle.whole.specs.Whole.{ends, isQuick, longest, margin, Whole, Past}
@@ -35,8 +33,8 @@ use Rattle.layout.specs.Silent.{isSilent}
 use Rattle.run.specs.Places.{Passes, barsAt, fieldStart, Placed, PassesTo, Fielded}
 use Rattle.run.specs.Places.Passes.{here}
 use Rattle.layout.proofs.RowEnds.{code-behind}
-use Rattle.run.proofs.PassLaws.{passes-byte, passes-join}
-use Rattle.run.proofs.PlaceLaws.{silent-later, silent-period, silent-9900, silent-9999, at-field}
+use Rattle.run.proofs.PassLaws.{no-control, no-bar, no-end, passes-byte, passes-join}
+use Rattle.run.proofs.PlaceLaws.{start-next, silent-later, silent-period, silent-9900, silent-9999, at-field}
 
 -- in a field after the first, in a silent row, of a kind that can be passed, with so many bytes to come before the limit
 record InField (h : Hot) (n : ℕ) : Type 0 where
@@ -77,8 +75,8 @@ module _ (h : Hot) (ss os : List ℕ) (a : Asked) where
       )
 
   byte-step : (n b : ℕ) → InField h (suc n) → ends b ≡ false → stepOf h ss os a b ≡ Next (grownOf h b)
-  unfolding inFieldOf ends
-  byte-step n b i e = in-field n b i ∙ rw (or-fails (ltb b 32) (eqb b bar) e .1, or-fails (ltb b 32) (eqb b bar) e .0)
+  unfolding inFieldOf
+  byte-step n b i e = in-field n b i ∙ rw (no-bar b e, no-control b e)
 
   -- the lines before are not asked, and the line says nothing
   asks-none : InField h 1 → askedRuleOf h a ≡ 0
@@ -107,10 +105,6 @@ module _ (h : Hot) (ss os : List ℕ) (a : Asked) where
       in-field 0 bar i
       ∙ rw (ne-eqb (h .bars) 1 (λ e. omega (arith, i .later)), clear (dueOf h), asks-none i, says-none i)
 
-not-lf : (b : ℕ) → ends b ≡ false → eqb b LF ≡ false
-unfolding ends
-not-lf b e = ne-eqb b LF (λ p. omega (arith, p, ltb-false b 32 (or-fails (ltb b 32) (eqb b bar) e .0)))
-
 longer : {k : ℕ} {f : Field} {xs ys : List ℕ} → Whole k f xs ys → length ys < length xs
 longer (at-bar clear) = omega arith
 longer (with-byte e p) = omega (arith, longer p)
@@ -128,7 +122,7 @@ whole-passes {ys = ys} (with-byte {b = b} {xs = xs} a p) h (suc m) t k f e i =
     let bytes : h .bytes + 1 + m ≡ h .bytes + suc m = omega arith in
     let rest : Passes (grownOf h b) t xs (barredOf h (suc m)) t ys =
     rw bytes at (whole-passes p (grownOf h b) m t k (rw (k, f)) (omega arith) on) in
-    passes-byte h (grownOf h b) t b (not-lf b a) (byte-step h _ _ _ m b i a) rest
+    passes-byte h (grownOf h b) t b (no-end b a) (byte-step h _ _ _ m b i a) rest
 
 -- the place of another field of the same line
 abbrev pub placeAt : Place → ℕ → ℕ → Place
@@ -160,10 +154,6 @@ module _ (s : List ℕ) (p : Place) (row : p .row < rowCount) (silent : isSilent
       let led : Passes h t (drop (p .at) s) (barredOf h n) t (drop j s) =
       whole-passes (past .whole) h n t (rw is) refl lengths inside in
       rw (at-field p (before + p .at) row, at-field (placeAt p j (p .index + 1)) (before + j) row) (rw (bytes, bars) at led)
-
-start-next : (r : ℕ) → rowStart (suc r) ≡ rowStart r + fields r
-unfolding rowStart
-start-next r = refl
 
 -- The loop over fields: from the place p, which is in a row, it stands at field `index` of the table, at i.
 quick-code : (k : ℕ) → k ≡ codeClass → isQuick k ≡ true → ⊥

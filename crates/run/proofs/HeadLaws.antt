@@ -7,11 +7,11 @@ use native.Mathlib.Omega.{arith}
 use native.Mathlib.Nat.{zero-add, add-zero, add-suc, mod-eq-of-lt, div-eq-of-lt, mul-add-mod-self-right, mul-add-div-right}
 use native.Mathlib.Numerals.{add-one}
 use native.Mathlib.Decide.{ℕ-discrete}
-use lib.Dec.{T, eqb, ltb}
+use lib.Dec.{T, eqb}
 use lib.Ieee.Bits.{is-true}
 use lib.ListN.{length, getD, drop}
 use lib.Seq.{drop-cons}
-use borrow.Author.Tests.{not-true, ne-eqb, lt-leb, ltb-false}
+use borrow.Author.Tests.{not-true, ne-eqb, lt-leb}
 use Rattle.layout.specs.Lists.{allBelow}
 use Rattle.layout.specs.Text.{bytes, codeNumber, textNumber}
 use Rattle.layout.specs.Rows.{rowTable, rowCount, none, listed, code, rowOfCode, row9999}
@@ -21,7 +21,7 @@ use Rattle.layout.proofs.Below.{below-at}
 use Rattle.layout.proofs.CodeLaws.{row-of-code-code}
 use Rattle.rules.specs.Bytes.{bar, LF}
 use Rattle.rules.specs.Rules.{byteLimit}
-use Rattle.rules.proofs.TestLaws.{and-left, and-right, or-fails}
+use Rattle.rules.proofs.TestLaws.{and-left, and-right}
 use Rattle.field.specs.Streaming.{withByte}
 use Rattle.whole.specs.Whole.{ends}
 use Rattle.line.specs.Machine.{codeKind, codeOnly, wordRow, codeBarOf, barOf, inFieldOf, startOf, stepOf}
@@ -32,7 +32,7 @@ use Rattle.run.specs.declared.place.Place.{Place}
 use Rattle.piece.specs.Piece.{stepWith, AllBytes}
 use Rattle.run.specs.Places.{Passes, codeAt, Follows, lineStart, fieldStart, PassesTo, Placed, Headed}
 use Rattle.run.specs.Places.Passes.{here}
-use Rattle.run.proofs.PassLaws.{passes-join, passes-byte}
+use Rattle.run.proofs.PassLaws.{no-control, no-bar, no-end, passes-join, passes-byte}
 use Rattle.run.proofs.PlaceLaws.{silent-row, at-line, at-field}
 
 -- None of the last n bytes of a number ends a field: so it is with the four of each row's code.
@@ -56,19 +56,6 @@ plain-parts n x b l e =
     let high : (x * 256 + b) / 256 ≡ x = mul-add-div-right (omega arith) x b ∙ rw (div-eq-of-lt l, add-zero) in
     let parts = rw (low, high) at e in
     (not-true (ends b) (and-left (not (ends b)) (plain n x) parts), and-right (not (ends b)) (plain n x) parts)
-
--- a byte that ends no field
-module _ (b : ℕ) (e : ends b ≡ false) where
-  no-control : ltb b 32 ≡ false
-  unfolding ends
-  no-control = or-fails (ltb b 32) (eqb b bar) e .0
-
-  no-bar : eqb b bar ≡ false
-  unfolding ends
-  no-bar = or-fails (ltb b 32) (eqb b bar) e .1
-
-  no-end : eqb b LF ≡ false
-  no-end = ne-eqb b LF (λ q. omega (arith, ltb-false b 32 no-control))
 
 -- The code's bytes, from i on.
 module _ (s : List ℕ) (i : ℕ) where

@@ -1,12 +1,16 @@
 -- Bytes that are all accepted, one by one: the run over them is the run from where they lead, and the ranges hold there.
-use mathlib.Core.Path.{_≡_, _∙_, refl}
+use mathlib.Core.Path.{_≡_, refl}
 use mathlib.Core.Bool.{false}
-use mathlib.Core.List.{List, [], _∷_}
+use mathlib.Core.List.{List, _∷_}
 use Prim.Native.Nat.{ℕ, suc, _+_}
-use lib.Dec.{eqb}
+use native.Mathlib.Omega.{arith}
+use lib.Dec.{eqb, ltb}
 use lib.ListN.{drop}
 use lib.Seq.{getD-drop}
-use Rattle.rules.specs.Bytes.{LF}
+use borrow.Author.Tests.{ne-eqb, ltb-false}
+use Rattle.rules.specs.Bytes.{bar, LF}
+use Rattle.rules.proofs.TestLaws.{or-fails}
+use Rattle.whole.specs.Whole.{ends}
 use Rattle.line.specs.declared.hot.Hot.{Hot}
 use Rattle.line.specs.declared.step.Step.the-variants.{Next}
 use Rattle.state.specs.Ranges.{Held}
@@ -34,6 +38,19 @@ pub passes-join : {h g k : Hot} {t u v : Tally} {xs ys zs : List ℕ}
     → Passes h t xs g u ys → Passes g u ys k v zs → Passes h t xs k v zs
 passes-join here q = q
 passes-join (byte e p) q = byte e (passes-join p q)
+
+-- a byte that ends no field
+module _ (b : ℕ) (e : ends b ≡ false) where
+  pub no-control : ltb b 32 ≡ false
+  unfolding ends
+  no-control = or-fails (ltb b 32) (eqb b bar) e .0
+
+  pub no-bar : eqb b bar ≡ false
+  unfolding ends
+  no-bar = or-fails (ltb b 32) (eqb b bar) e .1
+
+  pub no-end : eqb b LF ≡ false
+  no-end = ne-eqb b LF (λ q. omega (arith, ltb-false b 32 no-control))
 
 -- a byte that is no LF leaves what is kept
 module _ (h n : Hot) (t : Tally) (b : ℕ) (other : eqb b LF ≡ false) where

@@ -93,7 +93,7 @@ module _ (p : Place) (bytes : ℕ) where
 pub start-at : (starts : List ℕ) (r : ℕ) → starts ≡ startColumn → r ≤ rowCount → getD starts r 0 ≡ rowStart r
 start-at starts r e l = rw e (start-entry r l)
 
-start-next : (r : ℕ) → rowStart (suc r) ≡ rowStart r + fields r
+pub start-next : (r : ℕ) → rowStart (suc r) ≡ rowStart r + fields r
 unfolding rowStart
 start-next r = refl
 

@@ -3,7 +3,7 @@ use mathlib.Core.Path.{_≡_}
 use mathlib.Core.Bool.{true, false}
 use Prim.Native.Nat.{ℕ, _≤_}
 use native.Mathlib.Omega.{arith}
-use lib.Dec.{leb, ltb, eqb}
+use lib.Dec.{leb}
 use borrow.Author.Tests.{leb-true, le-ltb, ne-eqb}
 use Rattle.rules.specs.Bytes.{bar}
 use Rattle.rules.specs.Fields.{isDigit}

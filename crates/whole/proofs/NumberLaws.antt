@@ -8,7 +8,7 @@ use native.Mathlib.Numerals.{add-one}
 use native.Mathlib.Omega.{arith}
 use lib.Dec.{eqb, ltb}
 use lib.ListN.{length, getD, drop}
-use borrow.Author.Tests.{le-ltb, lt-ltb, eq-eqb, ne-eqb, not-false}
+use borrow.Author.Tests.{lt-ltb, eq-eqb, ne-eqb, not-false}
 use Rattle.layout.specs.Packed.{sizeUnit, lineCodeClass, nClass, nAnyClass, decimalsClass, dateClass, cnpjClass, cpfClass}
 use Rattle.rules.specs.Bytes.{bar}
 use Rattle.rules.specs.Fields.{isDigit, isDate, comma}

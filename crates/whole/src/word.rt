@@ -35,7 +35,7 @@ pub fn eight(s: &[u8], i: usize) -> u64
 
 // Which byte has the first mark.
 pub fn first_of(marks: u64) -> usize
-    ensures { λ k. ⌜ k ≡ trailingZeros 64 marks / 8 ⌝ }
+    ensures { λ k. ⌜ (k ≡ trailingZeros 64 marks / 8) × (k ≤ 8) ⌝ }
 {
     (u64::trailing_zeros(marks) / 8) as usize
 }

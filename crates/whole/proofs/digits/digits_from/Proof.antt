@@ -28,7 +28,7 @@ returns-2 c =
     let looked = c .before .before in
     let known = looked .before .before in
     let a = known .before .args in
-    c .first-of .ensures
+    c .first-of .ensures .0
     ∙ told-eight other-marks (a .s .now) (a .i) (λ k. known .shared-slice-known .given k .fits) (looked .before .eight .ensures)
     (looked .others .ensures) .some (c .before .if1 .left)
 

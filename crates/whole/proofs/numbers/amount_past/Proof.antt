@@ -44,26 +44,10 @@ returns-2 : tie.Need-returns-2
 returns-2 c = λ more. absurd (omega arith)
 
 add-cents-past : tie.Need-add-cents-past
-add-cents-past c =
-    let counted = c .before in
-    let looked = counted .before .before in
-    let known = looked .before .before in
-    let a = known .before .args in
-    let told = told-eight other-marks (a .s .now) (a .i) (λ k. known .shared-slice-known .given k .fits) (looked .before .eight .ensures)
-    (looked .others .ensures) .some (counted .before .if1 .left) in
-    let k = counted .first-of .ensures ∙ told in
-    omega (arith, k, leading-le 8 (a .s .now) (a .i))
+add-cents-past c = search needs
 
 cents-past-requires : tie.Need-cents-past-requires
-cents-past-requires c κs =
-    let counted = c .before in
-    let looked = counted .before .before in
-    let known = looked .before .before in
-    let a = known .before .args in
-    let told = told-eight other-marks (a .s .now) (a .i) (λ k. known .shared-slice-known .given k .fits) (looked .before .eight .ensures)
-    (looked .others .ensures) .some (counted .before .if1 .left) in
-    let k = counted .first-of .ensures ∙ told in
-    omega (arith, k, leading-le 8 (a .s .now) (a .i))
+cents-past-requires c κs = search needs
 
 returns-3 : tie.Need-returns-3
 returns-3 c = λ more.
@@ -73,10 +57,10 @@ returns-3 c = λ more.
     let a = known .before .args in
     let told = told-eight other-marks (a .s .now) (a .i) (λ k. known .shared-slice-known .given k .fits) (looked .before .eight .ensures)
     (looked .others .ensures) .some (counted .before .if1 .left) in
-    let k = counted .first-of .ensures ∙ told in
+    let k = counted .first-of .ensures .0 ∙ told in
     let s = a .s .now in
     amount-past s (a .i) (omega arith) _ (rw (← k) at (leading-digits 8 s (a .i))) (omega (arith, c .before .if2 .left))
-    (omega (arith, k, leading-le 8 s (a .i))) (c .cents-past .ensures more)
+    (omega (arith, counted .first-of .ensures .1)) (c .cents-past .ensures more)
 
 pub amount-past-spec : {M : Type 1} → statement M
 amount-past-spec =

@@ -4,9 +4,8 @@ use Prim.Native.Nat.{_+_, _-_, _≤_}
 use native.Mathlib.Omega.{arith}
 use borrow.Author.Needs.{needs}
 use Rattle.whole.specs.Whole.{Plain}
-use Rattle.whole.proofs.AlikeLaws.{alike-le}
 use Rattle.whole.proofs.MarkLaws.{told-eight}
-use Rattle.whole.proofs.WordLaws.{isPlain, stop-marks}
+use Rattle.whole.proofs.WordLaws.{stop-marks}
 use Rattle.whole.proofs.PastLaws.{past-farther}
 use Rattle.whole.proofs.TextLaws.{plain-counted, plain-join}
 use Rattle.whole.proofs.text.text_past.Statement.{statement}
@@ -31,46 +30,25 @@ first-of-requires : tie.Need-first-of-requires Inv-loop μ-loop
 first-of-requires c κs = search needs
 
 add-sized-past : tie.Need-add-sized-past Inv-loop μ-loop
-add-sized-past c =
-    let counted = c in
-    let looked = counted .before .before in
-    let at = looked .before .before .before in
-    let start = at .before .before in
-    let a = start .args in
-    let told = told-eight stop-marks (a .s .now) (at .loop .j) (λ k. at .before .shared-slice-known .given k .fits)
-    (looked .before .eight .ensures) (looked .stops .ensures) .some (counted .before .if1 .taken) in
-    let k = counted .first-of .ensures ∙ told in
-    let few = alike-le isPlain 8 (a .s .now) (at .loop .j) in
-    omega (arith, k, few)
+add-sized-past c = search needs
 
 sized-past-requires : tie.Need-sized-past-requires Inv-loop μ-loop
 sized-past-requires c κs =
-    let counted = c in
-    let looked = counted .before .before in
+    let looked = c .before .before in
     let at = looked .before .before .before in
-    let start = at .before .before in
-    let a = start .args in
+    let a = at .before .before .args in
     let told = told-eight stop-marks (a .s .now) (at .loop .j) (λ k. at .before .shared-slice-known .given k .fits)
-    (looked .before .eight .ensures) (looked .stops .ensures) .some (counted .before .if1 .taken) in
-    let k = counted .first-of .ensures ∙ told in
-    let few = alike-le isPlain 8 (a .s .now) (at .loop .j) in (
+    (looked .before .eight .ensures) (looked .stops .ensures) .some (c .before .if1 .taken) in
+    let k = c .first-of .ensures in (
       omega (arith, at .loop .inv .0),
-      omega (arith, k, few),
-      plain-join (a .s .now) (a .i) (at .loop .j) _ (at .loop .inv .1) (plain-counted 8 (a .s .now) (at .loop .j) _ (rw k)),
+      omega (arith, k .1),
+      plain-join (a .s .now) (a .i) (at .loop .j) _ (at .loop .inv .1)
+          (plain-counted 8 (a .s .now) (at .loop .j) _ (rw (k .0 ∙ told))),
     )
 
 returns : tie.Need-returns Inv-loop μ-loop
 returns c = λ kind class size more.
-    let counted = c .before in
-    let looked = counted .before .before in
-    let at = looked .before .before .before in
-    let start = at .before .before in
-    let a = start .args in
-    let told = told-eight stop-marks (a .s .now) (at .loop .j) (λ k. at .before .shared-slice-known .given k .fits)
-    (looked .before .eight .ensures) (looked .stops .ensures) .some (counted .before .if1 .taken) in
-    let k = counted .first-of .ensures ∙ told in
-    let few = alike-le isPlain 8 (a .s .now) (at .loop .j) in
-    past-farther _ (omega (arith, k, few)) (c .sized-past .ensures kind class size more)
+    past-farther _ (omega (arith, c .before .first-of .ensures .1)) (c .sized-past .ensures kind class size more)
 
 add-j : tie.Need-add-j Inv-loop μ-loop
 add-j c = search needs
