@@ -1,38 +1,13 @@
-// Standard input to seven lines: the checker's final answer; with --blocks a line for each block follows, with its lines ended.
-// With --pieces the input is handed over in pieces of so many bytes at most, 1 to 65536.
-// Everything that matters is in `sef`.
+// Standard input to seven lines: the checker's final answer; with --blocks a line for each block follows, with its lines ended, and
+// with --report one for each open line and for each row too. With --pieces the input is handed over in pieces of so many bytes at
+// most, 1 to 65536. Everything that matters is in `sef`.
+mod print;
+
 ghost use Prim.Native.Nat.{_≤_};
 ghost use lib.ListN.{length};
-use layout::blocks::BLOCKS;
 use libc::STDERR_FILENO;
 use libc::STDIN_FILENO;
-use libc::STDOUT_FILENO;
 use sef::State;
-use sef::answers::Numbers;
-
-fn line(name: &[u8], n: u64) {
-    io::write_all(STDOUT_FILENO, name);
-    io::print_decimal(STDOUT_FILENO, n);
-    io::write_all(STDOUT_FILENO, b"\n");
-}
-
-fn result(refusal: u64) {
-    if refusal == 0 {
-        io::write_all(STDOUT_FILENO, b"result=accepted\n");
-    } else {
-        io::write_all(STDOUT_FILENO, b"result=refused\n");
-    }
-}
-
-fn print(n: Numbers) {
-    result(n.refusal);
-    line(b"refusal=", n.refusal);
-    line(b"line=", n.line);
-    line(b"field=", n.field);
-    line(b"byte=", n.position);
-    line(b"lines=", n.lines);
-    line(b"bytes=", n.bytes);
-}
 
 fn after(s: State, piece: &[u8]) -> State {
     let checked = sef::calls::check(s, piece);
@@ -40,29 +15,18 @@ fn after(s: State, piece: &[u8]) -> State {
     next
 }
 
-fn print_block(letter: u8, lines: u64) {
-    let name = [letter];
-    io::write_all(STDOUT_FILENO, b"block ");
-    io::write_all(STDOUT_FILENO, &name);
-    line(b"=", lines);
-}
-
-fn print_blocks(totals: &[u64; BLOCKS]) {
-    let letters = layout::blocks::letters();
-    for x in 0..BLOCKS {
-        print_block(letters[x], totals[x]);
-    }
-}
-
-fn finish(s: State, blocks: bool) {
+// The lines of the state that are asked for beside the answer: those of the blocks, and with them those of a report.
+fn finish(s: State, blocks: bool, report: bool) {
     let finished = sef::calls::finish(s);
     let answer = finished.answer;
-    print(sef::answers::final_numbers(answer));
+    let state = finished.state;
+    print::answer(sef::answers::final_numbers(answer));
     if blocks {
-        let state = finished.state;
-        let tally = state.tally;
-        let totals = tally.totals;
-        print_blocks(&totals);
+        print::blocks(state);
+    }
+    if report {
+        print::open_lines(state);
+        print::rows(state);
     }
 }
 
@@ -74,7 +38,7 @@ fn read_piece(block: &mut [u8], size: usize) -> isize
 }
 
 // A proved loop has to end, and nothing says that the input does: so the loop counts down, from a number that no run uses up.
-fn check_input(size: usize, blocks: bool)
+fn check_input(size: usize, blocks: bool, report: bool)
     requires { ⌜ size ≤ 65536 ⌝ }
 {
     let mut state = sef::calls::start();
@@ -87,7 +51,7 @@ fn check_input(size: usize, blocks: bool)
             return;
         }
         if got == 0 {
-            finish(state, blocks);
+            finish(state, blocks, report);
             return;
         }
         let n = io::count(got, &block);
@@ -96,7 +60,7 @@ fn check_input(size: usize, blocks: bool)
     }
 }
 
-// The bytes of an option: --blocks and --pieces have as many.
+// The bytes of an option: --blocks, --report and --pieces have as many.
 const OPTION: usize = 8;
 
 fn is_option(word: &[u8; OPTION], option: &[u8; OPTION]) -> bool {
@@ -156,7 +120,7 @@ fn check_pieces() -> bool {
     if size == 0 {
         return false;
     }
-    check_input(size, false);
+    check_input(size, false, false);
     true
 }
 
@@ -166,10 +130,11 @@ fn obey() -> bool {
         return check_pieces();
     }
     let blocks = words == 2 && asks(b"--blocks");
-    if 1 < words && !blocks {
+    let report = words == 2 && asks(b"--report");
+    if 1 < words && !blocks && !report {
         return false;
     }
-    check_input(LARGEST, blocks);
+    check_input(LARGEST, blocks || report, report);
     true
 }
 
@@ -177,7 +142,7 @@ fn main() {
     if !obey() {
         io::write_all(
             STDERR_FILENO,
-            b"usage: sefcheck [--blocks | --pieces BYTES]\n",
+            b"usage: sefcheck [--blocks | --report | --pieces BYTES]\n",
         );
     }
 }

@@ -5,10 +5,10 @@ use Rattle.sefcheck.proofs.check_input.Statement.{statement}
 use Rattle.sefcheck.proofs.check_input.Tie as tie
 
 abbrev Inv-loop : tie.InvT-loop
-Inv-loop size blocks state₀ block₀ turns₀ t8 state block turns = 65536 ≡ length block
+Inv-loop size blocks report state₀ block₀ turns₀ t8 state block turns = 65536 ≡ length block
 
 abbrev μ-loop : tie.MeasureT-loop
-μ-loop size blocks state₀ block₀ turns₀ t8 state block turns = turns
+μ-loop size blocks report state₀ block₀ turns₀ t8 state block turns = turns
 
 start-requires : tie.Need-start-requires Inv-loop μ-loop
 start-requires c κs = search needs

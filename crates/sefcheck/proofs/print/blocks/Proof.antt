@@ -1,8 +1,8 @@
 use borrow.Author.Needs.{needs}
 use Prim.Native.Nat.{_≤_, _-_}
 use Rattle.layout.specs.Rows.{blocks}
-use Rattle.sefcheck.proofs.print_blocks.Statement.{statement}
-use Rattle.sefcheck.proofs.print_blocks.Tie as tie
+use Rattle.sefcheck.proofs.print.blocks.Statement.{statement}
+use Rattle.sefcheck.proofs.print.blocks.Tie as tie
 
 abbrev Inv-loop : tie.InvT-loop
 Inv-loop totals letters x₀ x = x ≤ blocks
@@ -16,17 +16,17 @@ letters-requires c κs = search needs
 loop-holds : tie.Need-loop-holds Inv-loop μ-loop
 loop-holds c = search needs
 
-array-read-print-block : tie.Need-array-read-print-block Inv-loop μ-loop
-array-read-print-block c = search needs
+array-read-block : tie.Need-array-read-block Inv-loop μ-loop
+array-read-block c = search needs
 
-mul-print-block : tie.Need-mul-print-block Inv-loop μ-loop
-mul-print-block c = search needs
+mul-block : tie.Need-mul-block Inv-loop μ-loop
+mul-block c = search needs
 
-element-copy-out-print-block : tie.Need-element-copy-out-print-block Inv-loop μ-loop
-element-copy-out-print-block c = search needs
+array-read-block-2 : tie.Need-array-read-block-2 Inv-loop μ-loop
+array-read-block-2 c = search needs
 
-print-block-requires : tie.Need-print-block-requires Inv-loop μ-loop
-print-block-requires c κs = search needs
+block-requires : tie.Need-block-requires Inv-loop μ-loop
+block-requires c κs = search needs
 
 add-x : tie.Need-add-x Inv-loop μ-loop
 add-x c = search needs
@@ -40,18 +40,18 @@ loop-again c = search needs
 returns : tie.Need-returns Inv-loop μ-loop
 returns c = search needs
 
-pub print-blocks-spec : {M : Type 1} → statement M
-print-blocks-spec =
+pub blocks-spec : {M : Type 1} → statement M
+blocks-spec =
     tie.close
     (tie.spec
     Inv-loop
     μ-loop
     letters-requires
     loop-holds
-    array-read-print-block
-    mul-print-block
-    element-copy-out-print-block
-    print-block-requires
+    array-read-block
+    mul-block
+    array-read-block-2
+    block-requires
     add-x
     loop-less
     loop-again
