@@ -1,6 +1,7 @@
 # What a user runs. `make test` is the whole gate: it ends in rt's own 'N passed, 0 failed'.
-.PHONY: test compare exchange bench peer long kit cargo
+.PHONY: test compare exchange bench peer long install uninstall kit cargo
 
+PREFIX = /usr/local
 SEED = 1
 CASES = 61500
 FILES = 2000
@@ -28,6 +29,13 @@ peer: cargo
 # A file at the byte limit, and one past it.
 long: kit
 	@tools/long
+
+# The command, the program, its tables and the manual page: make install PREFIX=/opt/sefcheck
+install:
+	@tools/install "$(DESTDIR)$(PREFIX)"
+
+uninstall:
+	@tools/install --remove "$(DESTDIR)$(PREFIX)"
 
 kit:
 	@command -v rt > /dev/null || { echo "Golpinesh needs the Rattle kit: its command rt is not on the PATH" >&2; exit 2; }
