@@ -2,14 +2,16 @@
 # place that it names (share/show.sh). Run in the C locale, where a character is a byte.
 BEGIN {
     FS = "\t"
-    WIDTH = 72       # bytes of the line that are shown at most
-    BEFORE = 36      # of them before the place
+    WIDTH = 64       # bytes of the line that are shown at most
+    BEFORE = 32      # of them before the place
     STATED_MOST = 10 # untrue statements that are shown
+    WORD = 40        # bytes of a field that are told
     CUT = "[..]"
     BAR = 124
     CR = 13
     LF = 10
     file = ENVIRON["SHOW_NAME"]
+    gsub(/[\001-\037\177]/, "?", file) # a name can hold anything, a terminal should not obey it
     language = ENVIRON["SHOW_LANGUAGE"] == "pt" ? 3 : 2
     letters = ENVIRON["SHOW_LETTERS"]
 }
@@ -29,7 +31,7 @@ $1 == "stated" { statements++; stated_line[statements] = $2; stated_code[stateme
 END {
     if (file == "-") file = said("input")
     if (value["result"] == "accepted") print said("accepted", file, value["lines"], value["bytes"])
-    else refused(value["refusal"], field_text(value["code"]))
+    else refused(value["refusal"], line_code(value["code"]))
     if (ENVIRON["SHOW_BLOCKS"] != "") blocks()
 }
 
@@ -58,6 +60,18 @@ function field_text(numbers,    n, byte, i, text) {
     text = ""
     for (i = 1; i <= n; i++) text = text shown(byte[i] + 0)
     return text
+}
+
+# The line's code: four bytes, and a bar right after them.
+function line_code(numbers,    n, byte) {
+    n = split(numbers, byte, " ")
+    return n == 5 && byte[5] == BAR ? substr(field_text(numbers), 1, 4) : ""
+}
+
+# A field's bytes, as many as are told, or a word for none.
+function told(text) {
+    if (text == "") return said("empty")
+    return length(text) > WORD ? substr(text, 1, WORD) CUT : text
 }
 
 # What is told below the line stands apart from it.
@@ -126,7 +140,9 @@ function field(code, place) {
 function kind(code, place,    places) {
     if (role[code, place] != "-") return said("kind " role[code, place])
     places = size[code, place]
-    if (type[code, place] == "C") return places == "0" ? said("kind empty") : said("kind text", places == "-" ? 255 : places)
+    if (type[code, place] == "C" && places == 0) return said("kind empty")
+    if (type[code, place] == "C" && places == 1) return said("kind byte")
+    if (type[code, place] == "C") return said("kind text", places == "-" ? 255 : places)
     if (decimals[code, place] != "-") return said("kind decimals", decimals[code, place])
     if (places == "-") return said("kind number")
     return places == 1 ? said("kind digit") : said("kind digits", places)
@@ -140,7 +156,7 @@ function beside(rule, code) {
     if (rule == 6) note("most", code, parent[code], most[code])
     if (rule == 7) note("has", code, fields[code])
     if (rule == 11) note("size", sprintf("%.0f", number["stops"] - number["at"]))
-    if (rule == 13) note("count", stated(field_text(value["word"])), due(code))
+    if (rule == 13) note("count", told(field_text(value["word"])), due(code))
     if (rule == 23) statements_untrue()
 }
 
@@ -164,8 +180,6 @@ function open_lines(    i, text, row) {
     note("open", text)
 }
 
-function stated(text) { return text == "" ? said("empty") : text }
-
 # What a closing, or 9999, counts: the lines ended and itself; block 9 has 9999 still to come.
 function due(code) {
     if (code == "9999") return number["lines"] + 1
@@ -187,7 +201,7 @@ function statements_untrue(    i, found, code) {
         if (!untrue(stated_number[i], occurs(stated_code[i])) || found++ >= STATED_MOST) continue
         code = stated_code[i]
         gsub(/[^ -~]/, ".", code)
-        note("stated", stated_line[i], stated(code), stated(stated_number[i]), occurs(stated_code[i]))
+        note("stated", stated_line[i], told(code), told(stated_number[i]), occurs(stated_code[i]))
     }
     if (found > STATED_MOST) note("more", found - STATED_MOST)
 }

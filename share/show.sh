@@ -1,8 +1,8 @@
 # The answer for people (--show): what the program says and what stands in the file at the place that it names, for share/show.awk.
 
 KEPT=67108864 # of standard input or a pipe so many bytes are kept, to show a line of them
-SHOWN=72      # so many bytes on each side of the place are looked at
-WORD=40       # so many bytes of a field are looked at
+SHOWN=64      # so many bytes on each side of the place are looked at
+WORD=41       # so many bytes of a field are looked at: one more than are told
 
 bytes() { # bytes FILE FROM COUNT: so many of the file's bytes from this one on, which is counted from 0
   tail -c "+$(($2 + 1))" -- "$1" | head -c "$3"
@@ -25,7 +25,7 @@ begins() {
 }
 
 # What stands at the refused place: the bytes around it, where among them the line and the field begin and where the file is refused,
-# the line's code and the field's bytes. Before the byte that is refused (none, where the file ends too early) each LF ends a line, and a
+# the line's code, with the byte after it, and the field's bytes. Before the byte that is refused (none, where the file ends too early) each LF ends a line, and a
 # field begins after a bar.
 place() { # place FILE REFUSAL FIELD BYTE BYTES
   local file=$1 stops=$(($5 - ($2 != 14))) starts at from
@@ -37,7 +37,7 @@ place() { # place FILE REFUSAL FIELD BYTE BYTES
   from=$((at - starts > SHOWN ? at - SHOWN : starts))
   printf 'text=%s\n' "$(bytes "$file" "$from" "$((at - from + SHOWN + 3))" | numbers)"
   printf 'starts=%s\nat=%s\nstops=%s\n' "$((starts - from))" "$((at - from))" "$((stops - from))"
-  printf 'code=%s\n' "$(bytes "$file" "$((starts + 1))" 4 | numbers)"
+  printf 'code=%s\n' "$(bytes "$file" "$((starts + 1))" 5 | numbers)"
 }
 
 # What the 9900 lines state: of each its number, the code and what is stated. They are among the lines of block 9, right before 9999.
@@ -47,6 +47,13 @@ statements() { # statements FILE LINE BYTES LINES: the refused line, the bytes j
   from=$(begins "$1" 0 "$starts" '\n' "$4")
   bytes "$1" "$from" "$((starts - from))" |
     LC_ALL=C awk -F '|' -v OFS='\t' -v before="$(($2 - $4 - 1))" '$2 == "9900" { print "stated", before + NR, $3, $4 }'
+}
+
+copy= # where what can be read only once is kept
+keep() {
+  [ -z "$copy" ] || return 0
+  copy=$(mktemp 2> /dev/null) || { copy=/dev/null; return 0; } # then nothing is kept
+  trap 'rm -f -- "$copy"' EXIT
 }
 
 # The program's lines of an input that can be read only once, whose beginning is kept. That it can't be kept is no trouble, that it can't
@@ -81,18 +88,19 @@ read_once() { # read_once FILE: it can't be read again: standard input, a pipe, 
 before= # the status of the file before
 show_answer() { # show_answer FILE; a refused file's answer stands apart from others
   local lines status source=$1 reader=run
-  if read_once "$1"; then source=$copy reader=kept; fi
+  if read_once "$1"; then
+    keep
+    source=$copy reader=kept
+  fi
   lines=$(answer "$1"); status=$?
-  if [ "$status" -eq 2 ]; then return 2; fi
+  if [ "$status" -gt 1 ]; then return 2; fi
   [ -z "$before" ] || [ "$before$status" = 00 ] || echo
   before=$status
   { printf '%s\n' "$lines"; [ "$status" -eq 0 ] || beside "$source" "$lines"; } |
     LC_ALL=C SHOW_NAME=$1 SHOW_LANGUAGE=$language SHOW_LETTERS=$letters SHOW_BLOCKS=$blocks awk -f "$shared/show.awk" \
       table=words "$shared/words.tsv" table=refusals "$shared/refusals.tsv" table=rows "$shared/rows.tsv" \
-      table=fields "$shared/fields.tsv" table=answer -
+      table=fields "$shared/fields.tsv" table=answer - || return 2
   return "$status"
 }
 
 case $(of_locale LC_CTYPE) in *[Uu][Tt][Ff]8*|*[Uu][Tt][Ff]-8*) letters=yes ;; *) letters= ;; esac
-copy=$(mktemp 2> /dev/null) || copy=/dev/null # without it nothing of a pipe can be kept
-trap '[ "$copy" = /dev/null ] || rm -f -- "$copy"' EXIT
