@@ -1,10 +1,11 @@
 # What a user runs. `make test` is the whole gate: it ends in rt's own 'N passed, 0 failed'.
-.PHONY: test compare exchange bench peer long install uninstall kit cargo
+.PHONY: test compare exchange shown bench peer long install uninstall kit cargo
 
 PREFIX = /usr/local
 SEED = 1
 CASES = 61500
 FILES = 2000
+SHOWN = 1000
 
 test: kit cargo
 	@tools/test
@@ -16,6 +17,10 @@ compare: kit cargo
 # Neighbouring groups change places (request m), for longer runs: make exchange SEED=7 FILES=10000
 exchange: kit cargo
 	@tools/exchange $(SEED) $(FILES)
+
+# What --show prints, for longer runs: make shown SEED=7 SHOWN=10000
+shown: kit cargo
+	@tools/shown $(SEED) $(SHOWN)
 
 # Executed instructions a byte beside the C peer's, and the bounds they are held to: ends with 1 if one is broken. Not part of the tests.
 bench: kit

@@ -23,6 +23,7 @@ mod rules;
 mod checker;
 mod shape;
 mod sheets;
+pub mod shown;
 mod spot;
 mod stated;
 mod totals;
