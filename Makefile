@@ -35,7 +35,7 @@ peer: cargo
 long: kit
 	@tools/long
 
-# The command, the program, its tables and the manual page: make install PREFIX=/opt/sefcheck
+# The command, the program, its tables and the manual page: make install PREFIX=~/.local
 install:
 	@tools/install "$(DESTDIR)$(PREFIX)"
 
