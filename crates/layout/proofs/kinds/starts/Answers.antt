@@ -4,12 +4,8 @@ use Rattle.layout.specs.Lists.{tabulate}
 use Rattle.layout.specs.Rows.{row_table, listed, fields}
 use Rattle.layout.specs.Kinds.{row_start}
 use Rattle.layout.specs.Packed.{start_column}
-use Rattle.layout.proofs.kinds.starts.Statement.{statement}
-use Rattle.layout.proofs.kinds.starts.Tie as tie
+use Rattle.layout.proofs.kinds.starts.Goals as goal
 
-returns : tie.Need-returns
+pub returns : goal.returns
 unfolding start_column tabulate row_start fields listed row_table
 returns c = refl
-
-pub starts_spec : {M : Type 1} → statement M
-starts_spec = tie.close (tie.spec returns)

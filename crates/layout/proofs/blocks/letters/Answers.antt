@@ -2,12 +2,8 @@
 use mathlib.Core.Path.{refl}
 use Rattle.layout.specs.Text.{bytes}
 use Rattle.layout.specs.Rows.{block_letters}
-use Rattle.layout.proofs.blocks.letters.Statement.{statement}
-use Rattle.layout.proofs.blocks.letters.Tie as tie
+use Rattle.layout.proofs.blocks.letters.Goals as goal
 
-returns : tie.Need-returns
+pub returns : goal.returns
 unfolding block_letters bytes
 returns c = refl
-
-pub letters_spec : {M : Type 1} → statement M
-letters_spec = tie.close (tie.spec returns)

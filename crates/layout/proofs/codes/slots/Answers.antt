@@ -3,12 +3,8 @@ use mathlib.Core.Path.{refl}
 use Rattle.layout.specs.Text.{bytes, code_number, text_number}
 use Rattle.layout.specs.Rows.{row_table, listed, code}
 use Rattle.layout.specs.Packed.{slots_of, slot_table}
-use Rattle.layout.proofs.codes.slots.Statement.{statement}
-use Rattle.layout.proofs.codes.slots.Tie as tie
+use Rattle.layout.proofs.codes.slots.Goals as goal
 
-returns : tie.Need-returns
+pub returns : goal.returns
 unfolding slot_table slots_of code listed row_table text_number code_number bytes
 returns c = refl
-
-pub slots_spec : {M : Type 1} → statement M
-slots_spec = tie.close (tie.spec returns)
