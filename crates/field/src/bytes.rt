@@ -43,7 +43,7 @@ pub const NONE_TO_COME: u64 = 1;
 pub const CAP: u64 = 100_000_000_000_000;
 
 // How many bytes, the position of the first wrong one, from 1, or 0, and the value, by the field's kind.
-#[derive(Drop)]
+#[derive(Clone, Copy)]
 pub struct Field {
     pub length: u64,
     pub wrong: u64,
