@@ -1,5 +1,5 @@
 -- Words: some bytes as one number, and the marks of those that are no digits, or that end a field, from a few sums and bits.
-use Rattle.std.proofs.Common.{◌≡◌, ℕ, suc, ◌+◌, ◌*◌, ◌/◌, ◌%◌, ◌^◌, ◌<◌, ◌≤◌, Bool, false, not, List, get_or, sym, refl, ◌∙◌, mod-eq_of_lt, arith, lit≤}
+use Rattle.std.proofs.Common.{◌≡◌, ℕ, suc, ◌+◌, ◌*◌, ◌/◌, ◌%◌, ◌^◌, ◌<◌, Bool, false, not, List, get_or, sym, refl, ◌∙◌, mod-eq_of_lt, arith, lit≤}
 use lib.Bits.{bit_and, bit_or, bit_xor, and_block, or_block, xor_block, and_lt, or_lt, xor_lt, and_mod, or_mod, and_le_r}
 use borrow.Author.Tests.{not-true}
 use Rattle.layout.specs.Pick.{pick}

@@ -1,5 +1,5 @@
 -- A whole field at once: what it is that a field and its bar are passed.
-use Rattle.std.specs.Prelude.{◌≡◌, ℕ, zero, suc, ◌+◌, ◌-◌, ◌*◌, ◌%◌, ◌<◌, ◌≤◌, Bool, false, ◌&&◌, ◌||◌, List, [], ◌∷◌, drop, ◌==◌, nat_le, nat_lt, slice_index, slice_index_or}
+use Rattle.std.specs.Prelude.{◌≡◌, ℕ, zero, suc, ◌+◌, ◌-◌, ◌*◌, ◌%◌, ◌<◌, ◌≤◌, Bool, false, ◌&&◌, ◌||◌, List, ◌∷◌, drop, ◌==◌, nat_le, nat_lt, slice_index, slice_index_or}
 use Rattle.layout.specs.Packed.{size_unit, c_class, decimals_class, date_class, cnpj_class, cpf_class}
 use Rattle.rules.specs.Bytes.{bar}
 use Rattle.rules.specs.Fields.{comma}
