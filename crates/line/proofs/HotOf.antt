@@ -159,8 +159,8 @@ module _ (seen : List ℕ) (b : ℕ) (plain : eqb b LF ≡ false) (inner : eqb b
         lines_on seen b plain,
         rows_on seen b plain,
         bars_on seen b plain inner,
-        word_on seen b plain inner,
         row_on seen b plain inner,
+        word_on seen b plain inner,
         ← add-one (length seen),
       )
 

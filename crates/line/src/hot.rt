@@ -11,7 +11,7 @@ pub const CODE_KIND: u64 = CLASS_CODE;
 
 pub const CODE_ONLY: u64 = 1;
 
-#[derive(Drop)]
+#[derive(Clone, Copy)]
 pub struct Hot {
     // lines ended and bytes judged
     pub lines: u64,

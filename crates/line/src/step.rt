@@ -75,7 +75,7 @@ const OPENS_KIND: u64 = CLASS_OPENS + SIZE_UNIT;
 // The kind of a date: eight digits.
 const DATE_KIND: u64 = CLASS_DATE + SIZE_UNIT * 8;
 
-#[derive(Drop)]
+#[derive(Clone, Copy)]
 pub enum Step {
     Next(Hot),
     Broken(u64, u64),
