@@ -6,7 +6,7 @@ use crate::State;
 
 // The refusal's number, 0 if none; its line and field, 0 if none; the position in the field, 0 for all but 2 and 10; lines ended
 // and bytes judged.
-#[derive(Drop)]
+#[derive(Clone, Copy)]
 pub struct Numbers {
     pub refusal: u64,
     pub line: u64,
@@ -17,7 +17,7 @@ pub struct Numbers {
 }
 
 // The answer to a piece.
-#[derive(Drop)]
+#[derive(Clone, Copy)]
 pub enum Answer {
     // nothing is refused so far: lines ended, bytes judged
     Open(u64, u64),
@@ -30,7 +30,7 @@ pub enum Answer {
 }
 
 // The answer to a finish.
-#[derive(Drop)]
+#[derive(Clone, Copy)]
 pub enum FinalAnswer {
     // lines ended, bytes judged
     Accepted(u64, u64),
@@ -43,7 +43,7 @@ pub enum FinalAnswer {
 }
 
 // The answer to a report.
-#[derive(Drop)]
+#[derive(Clone, Copy)]
 pub enum ReportAnswer {
     // the counts are written: lines ended, bytes judged
     Written(u64, u64),
@@ -54,14 +54,14 @@ pub enum ReportAnswer {
 }
 
 // What a piece gives back.
-#[derive(Drop)]
+#[derive(Clone, Copy)]
 pub struct Checked {
     pub answer: Answer,
     pub state: State,
 }
 
 // What a finish gives back.
-#[derive(Drop)]
+#[derive(Clone, Copy)]
 pub struct Finished {
     pub answer: FinalAnswer,
     pub state: State,

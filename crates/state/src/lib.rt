@@ -12,7 +12,7 @@ use line::periods::PAIRS;
 // For each row: its lines ended, the number of its last line, and how many stood under one parent line then. For each block, in the
 // order of blocks: its lines ended. For each row, and for no row: 0, or one more than what 9900 lines state of it. For each row that
 // has a period: the pairs of dates of its lines, in their order.
-#[derive(Drop)]
+#[derive(Clone, Copy)]
 pub struct Tally {
     pub counts: [u64; ROWS],
     pub stamps: [u64; ROWS],
@@ -22,7 +22,7 @@ pub struct Tally {
     pub pairs: [u64; PAIRS],
 }
 
-#[derive(Drop)]
+#[derive(Clone, Copy)]
 pub struct State {
     pub hot: Hot,
     // the rule that is broken, 0 while none is, the field that its refusal names, and the position in it
