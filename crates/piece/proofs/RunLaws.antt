@@ -1,15 +1,11 @@
 -- A step that goes on keeps all within the ranges, and so does what a piece comes to.
-use mathlib.Core.Path.{◌≡◌, ◌∙◌, refl, sym, subst}
+use mathlib.Core.Path.{◌≡◌, refl, subst}
 use mathlib.Core.Bool.{true}
 use mathlib.Core.List.{List, [], ◌∷◌}
 use Prim.Native.Nat.{ℕ, suc, ◌+◌, ◌<◌, ◌≤◌}
 use native.Mathlib.Omega.{arith}
-use native.Mathlib.Numerals.{add-one}
-use lib.ListN.{length, get_or, drop}
-use lib.Seq.{drop-cons, drop-length}
 use Rattle.rules.specs.Rules.{byte_limit}
 use Rattle.line.specs.Machine.{Below, HotFit, most_bars}
-use Rattle.piece.specs.Piece.{counts_with, stamps_with, occurrences_with, totals_with, stated_with, pairs_with, tally_of}
 use Rattle.piece.specs.Piece.{tally_with, open_of, stopped_of, on_step, step_with, run_of}
 use Rattle.state.specs.Ranges.{is_rule, Held}
 use Rattle.piece.specs.Piece.{AllBytes}
