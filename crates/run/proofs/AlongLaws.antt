@@ -1,12 +1,11 @@
 -- Over whole lines and fields: what leads on from a place keeps what `Along` says, whether a head, fields or a line's end.
 use mathlib.Core.Path.{◌≡◌, refl}
-use mathlib.Core.Bool.{Bool, true, false}
-use mathlib.Core.List.{List, [], ◌∷◌}
-use Prim.Native.Nat.{ℕ, ◌+◌, ◌-◌, ◌≤◌, ◌<◌, min}
+use mathlib.Core.List.{List, []}
+use Prim.Native.Nat.{ℕ, ◌+◌, ◌-◌, ◌≤◌, ◌<◌}
 use native.Mathlib.Omega.{arith}
 use native.Mathlib.Nat.{min-le_left, min-le_right}
 use lib.Dec.{eqb}
-use lib.ListN.{length, get_or, drop}
+use lib.ListN.{length}
 use Rattle.layout.specs.Rows.{row_count, none, block}
 use Rattle.rules.specs.Rules.{byte_limit}
 use Rattle.rules.proofs.TestLaws.{split}

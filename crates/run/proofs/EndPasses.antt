@@ -1,16 +1,14 @@
 -- A line's end: past a silent row's last field CR and LF are two steps that go on, to the next line's start. The line is counted.
 use mathlib.Core.Path.{◌≡◌, ◌∙◌, refl}
-use mathlib.Core.Bool.{Bool, true, false}
+use mathlib.Core.Bool.{true}
 use mathlib.Core.List.{List, ◌∷◌}
-use Prim.Native.Nat.{ℕ, suc, ◌+◌, ◌-◌, ◌≤◌, ◌<◌}
+use Prim.Native.Nat.{ℕ, suc, ◌+◌, ◌≤◌, ◌<◌}
 use native.Mathlib.Omega.{arith}
 use native.Mathlib.Numerals.{add-one}
-use lib.Dec.{eqb, ltb}
-use lib.ListN.{length, get_or, drop}
+use lib.ListN.{length, drop}
 use lib.Seq.{drop-cons}
 use borrow.Author.Tests.{ne_eqb, lt-ltb, lt-leb}
-use Rattle.layout.specs.Rows.{row_count, fields, block, is_closing}
-use Rattle.layout.specs.Kinds.{row_start}
+use Rattle.layout.specs.Rows.{row_count, block}
 use Rattle.rules.specs.Bytes.{CR, LF}
 use Rattle.rules.specs.Rules.{byte_limit}
 use Rattle.field.proofs.LengthLaws.{one_longer}

@@ -15,7 +15,7 @@ use line::hot::{CODE_KIND, CODE_ONLY, Hot};
 use line::order::ROW_9999;
 use line::step::kind_of;
 
-#[derive(Drop)]
+#[derive(Clone, Copy)]
 pub struct Place {
     pub at: usize,
     // of the lines before, as in Hot
