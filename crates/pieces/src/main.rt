@@ -7,43 +7,51 @@ mod gathered;
 
 use gathered::{ROOM, number, numbers, text};
 use layout::rows::ROWS;
-use libc::STDIN_FILENO;
 use sef::State;
 use sef::answers::Numbers;
+use std::io::{ErrorKind, Read, Result, Write};
 
 // A command's letter and length.
 const HEAD: usize = 5;
 
+// A piece has at most so many bytes.
+const LARGEST: usize = 65536;
+
 // The end of an answer's line: the totals that the call left.
-fn end(gathered: &mut [u8; ROOM], at: usize, s: State) {
+fn end<W: Write>(to: &mut W, gathered: &mut [u8; ROOM], at: usize, s: State) -> Result<()> {
     let tally = s.tally;
     let totals = tally.totals;
-    let named = text(gathered, at, b" totals");
-    let next = numbers(gathered, named, &totals);
-    gathered::end(gathered, next);
+    let named = text(to, gathered, at, b" totals")?;
+    let next = numbers(to, gathered, named, &totals)?;
+    gathered::end(to, gathered, next)
 }
 
 // A refusal with its number and place, or the word for none; then lines ended and bytes judged.
-fn put(gathered: &mut [u8; ROOM], unrefused: &[u8], n: Numbers) -> usize {
+fn put<W: Write>(
+    to: &mut W,
+    gathered: &mut [u8; ROOM],
+    unrefused: &[u8],
+    n: Numbers,
+) -> Result<usize> {
     let mut next = 0;
     if n.refusal == 0 {
-        next = text(gathered, next, unrefused);
+        next = text(to, gathered, next, unrefused)?;
     } else {
-        next = text(gathered, next, b"refused");
-        next = number(gathered, next, n.refusal);
-        next = number(gathered, next, n.line);
-        next = number(gathered, next, n.field);
-        next = number(gathered, next, n.position);
+        next = text(to, gathered, next, b"refused")?;
+        next = number(to, gathered, next, n.refusal)?;
+        next = number(to, gathered, next, n.line)?;
+        next = number(to, gathered, next, n.field)?;
+        next = number(to, gathered, next, n.position)?;
     }
-    next = number(gathered, next, n.lines);
-    number(gathered, next, n.bytes)
+    next = number(to, gathered, next, n.lines)?;
+    number(to, gathered, next, n.bytes)
 }
 
 // An answer that is this line and the totals.
-fn print(unrefused: &[u8], n: Numbers, s: State) {
+fn print<W: Write>(to: &mut W, unrefused: &[u8], n: Numbers, s: State) -> Result<()> {
     let mut gathered = [0u8; ROOM];
-    let next = put(&mut gathered, unrefused, n);
-    end(&mut gathered, next, s);
+    let next = put(to, &mut gathered, unrefused, n)?;
+    end(to, &mut gathered, next, s)
 }
 
 fn wide(b: u8) -> usize {
@@ -57,92 +65,124 @@ fn stated(head: &[u8; HEAD]) -> usize {
     low + high * 65536
 }
 
-fn report(s: State) {
+fn report<W: Write>(to: &mut W, s: State) -> Result<()> {
     let mut counts = [0u64; ROWS];
     let answer = sef::answers::report_numbers(sef::calls::report(s, &mut counts));
     let mut gathered = [0u8; ROOM];
-    let mut next = put(&mut gathered, b"counts", answer);
+    let mut next = put(to, &mut gathered, b"counts", answer)?;
     if answer.refusal == 0 {
-        next = numbers(&mut gathered, next, &counts);
+        next = numbers(to, &mut gathered, next, &counts)?;
     }
-    end(&mut gathered, next, s);
+    end(to, &mut gathered, next, s)
 }
 
 // A report with room for one count too few.
-fn no_room(s: State) {
+fn no_room<W: Write>(to: &mut W, s: State) -> Result<()> {
     let mut counts = [0u64; ROWS - 1];
     print(
+        to,
         b"counts",
         sef::answers::report_numbers(sef::calls::report(s, &mut counts)),
         s,
-    );
+    )
+}
+
+// Whether the input had as many bytes left as fill this.
+fn fill<R: Read>(from: &mut R, bytes: &mut [u8]) -> Result<bool> {
+    match from.read_exact(bytes) {
+        Ok(()) => Ok(true),
+        Err(e) => {
+            if e.kind() == ErrorKind::UnexpectedEof {
+                return Ok(false);
+            }
+            Err(e)
+        }
+    }
 }
 
 // The piece's bytes, read to the block's start.
-fn read_piece(block: &mut [u8], n: usize) -> bool {
+fn read_piece<R: Read>(from: &mut R, block: &mut [u8], n: usize) -> Result<bool> {
     if block.len() < n {
-        return false;
+        return Ok(false);
     }
-    io::read_full(STDIN_FILENO, &mut block[..n]) == n
+    fill(from, &mut block[..n])
 }
 
-fn check(s: State, block: &[u8], n: usize) -> State {
+fn check<W: Write>(to: &mut W, s: State, block: &[u8], n: usize) -> Result<State> {
     if block.len() < n {
-        return s;
+        return Ok(s);
     }
     let checked = sef::calls::check(s, &block[..n]);
     let answer = checked.answer;
     let next = checked.state;
-    print(b"open", sef::answers::answer_numbers(answer), next);
-    next
+    print(to, b"open", sef::answers::answer_numbers(answer), next)?;
+    Ok(next)
 }
 
-fn piece(s: State, block: &mut [u8], n: usize) -> State {
-    if read_piece(block, n) {
-        return check(s, block, n);
+fn piece<R: Read, W: Write>(
+    from: &mut R,
+    to: &mut W,
+    s: State,
+    block: &mut [u8],
+    n: usize,
+) -> Result<State> {
+    if read_piece(from, block, n)? {
+        return check(to, s, block, n);
     }
-    s
+    Ok(s)
 }
 
-fn finish(s: State) -> State {
+fn finish<W: Write>(to: &mut W, s: State) -> Result<State> {
     let finished = sef::calls::finish(s);
     let answer = finished.answer;
     let next = finished.state;
-    print(b"accepted", sef::answers::final_numbers(answer), next);
-    next
+    print(to, b"accepted", sef::answers::final_numbers(answer), next)?;
+    Ok(next)
 }
 
-fn obey(letter: u8, n: usize, s: State, block: &mut [u8]) -> State {
+fn obey<R: Read, W: Write>(
+    from: &mut R,
+    to: &mut W,
+    letter: u8,
+    n: usize,
+    s: State,
+    block: &mut [u8],
+) -> Result<State> {
     if letter == b'N' {
-        return sef::calls::start();
+        return Ok(sef::calls::start());
     }
     if letter == b'P' {
-        return piece(s, block, n);
+        return piece(from, to, s, block, n);
     }
     if letter == b'F' {
-        return finish(s);
+        return finish(to, s);
     }
     if letter == b'C' {
-        report(s);
+        report(to, s)?;
     }
     if letter == b'S' {
-        no_room(s);
+        no_room(to, s)?;
     }
-    s
+    Ok(s)
 }
 
-// A proved loop has to end: it counts down, from a number that no run uses up.
-fn main() {
+// The commands of the whole input. A proved loop has to end: it counts down, from a number that no run uses up.
+fn obey_all<R: Read, W: Write>(from: &mut R, to: &mut W) -> Result<()> {
     let mut state = sef::calls::start();
-    let mut block = io::large_buffer();
+    let mut block = [0u8; LARGEST];
     let mut turns = u64::MAX;
     while turns > 0 {
         let mut head = [0u8; HEAD];
-        if io::read_full(STDIN_FILENO, &mut head) < HEAD {
-            return;
+        if !fill(from, &mut head)? {
+            return Ok(());
         }
         let n = stated(&head);
-        state = obey(head[0], n, state, &mut block);
+        state = obey(from, to, head[0], n, state, &mut block)?;
         turns -= 1;
     }
+    Ok(())
+}
+
+fn main(rt: HostRuntime) -> Result<()> {
+    obey_all(&mut rt.stdin(), &mut rt.stdout())
 }

@@ -5,10 +5,13 @@
 
 mod print;
 
-ghost use Rattle.std.specs.Prelude.{◌≤◌, length};
+ghost use Rattle.std.specs.Prelude.{IfOk, length, ◌≤◌};
 
-use libc::{STDERR_FILENO, STDIN_FILENO};
 use sef::State;
+use std::env::FillError;
+use std::io;
+use std::io::{Read, Write};
+use std::rt::Env;
 
 fn after(s: State, piece: &[u8]) -> State {
     let checked = sef::calls::check(s, piece);
@@ -17,47 +20,58 @@ fn after(s: State, piece: &[u8]) -> State {
 }
 
 // The lines of the state that are asked for beside the answer: those of the blocks, and with them those of a report.
-fn finish(s: State, blocks: bool, report: bool) {
+fn finish<W: Write>(to: &mut W, s: State, blocks: bool, report: bool) -> io::Result<()> {
     let finished = sef::calls::finish(s);
     let answer = finished.answer;
     let state = finished.state;
-    print::answer(sef::answers::final_numbers(answer));
+    print::answer(to, sef::answers::final_numbers(answer))?;
     if blocks {
-        print::blocks(state);
+        print::blocks(to, state)?;
     }
     if report {
-        print::open_lines(state);
-        print::rows(state);
+        print::open_lines(to, state)?;
+        print::rows(to, state)?;
     }
+    Ok(())
 }
 
-// Bytes of the input, at most so many, to the block's start: how many, or -1.
-fn read_piece(block: &mut [u8], size: usize) -> isize
+// Bytes of the input, at most so many, to the block's start: how many.
+fn read_piece<R: Read>(from: &mut R, block: &mut [u8], size: usize) -> io::Result<usize>
     requires { size ≤ length block.old }
+    ensures { IfOk result (λ n. n ≤ size) }
 {
-    libc::read(STDIN_FILENO, &mut block[..size])
+    from.read(&mut block[..size])
 }
 
 // A proved loop has to end, and nothing says that the input does: so the loop counts down, from a number that no run uses up.
-fn check_input(size: usize, blocks: bool, report: bool)
+fn check_input<R: Read, W: Write>(
+    from: &mut R,
+    to: &mut W,
+    size: usize,
+    blocks: bool,
+    report: bool,
+) -> io::Result<()>
     requires { size ≤ 65536 }
 {
     let mut state = sef::calls::start();
-    let mut block = io::large_buffer();
+    let mut block = [0u8; LARGEST];
     let mut turns = u64::MAX;
     while turns > 0 {
-        let got = read_piece(&mut block, size);
-        if got < 0 {
-            os::fail(b"standard input");
-            return;
+        let n = read_piece(from, &mut block, size)?;
+        if n == 0 {
+            return finish(to, state, blocks, report);
         }
-        if got == 0 {
-            finish(state, blocks, report);
-            return;
-        }
-        let n = io::count(got, &block);
         state = after(state, &block[..n]);
         turns -= 1;
+    }
+    Ok(())
+}
+
+// Whether the call has a word at this place; the program's own name is at 0.
+fn has_word(env: &impl Env, i: usize) -> bool {
+    match env.arg(i, &mut []) {
+        Err(FillError::NotPresent) => false,
+        _ => true,
     }
 }
 
@@ -74,10 +88,12 @@ fn is_option(word: &[u8; OPTION], option: &[u8; OPTION]) -> bool {
 }
 
 // Whether the first word of the call is this option.
-fn asks(option: &[u8; OPTION]) -> bool {
+fn asks(env: &impl Env, option: &[u8; OPTION]) -> bool {
     let mut word = [0u8; OPTION];
-    let length = os::arg(1, &mut word);
-    length == OPTION && is_option(&word, option)
+    match env.arg(1, &mut word) {
+        Ok(length) => length == OPTION && is_option(&word, option),
+        Err(_) => false,
+    }
 }
 
 // A piece has at most so many bytes; and so many digits say how many.
@@ -108,42 +124,44 @@ fn size_of(digits: &[u8]) -> usize
 }
 
 // The size that stands behind --pieces; 0 where none does.
-fn size_asked() -> usize
+fn size_asked(env: &impl Env) -> usize
     ensures { result ≤ 65536 }
 {
     let mut digits = [0u8; DIGITS];
-    let length = os::arg(2, &mut digits);
-    size_of(&digits[..length])
+    match env.arg(2, &mut digits) {
+        Ok(length) => size_of(&digits[..length]),
+        Err(_) => 0,
+    }
 }
 
-fn check_pieces() -> bool {
-    let size = size_asked();
+fn check_pieces<E: Env, R: Read, W: Write>(env: &E, from: &mut R, to: &mut W) -> io::Result<bool> {
+    let size = size_asked(env);
     if size == 0 {
-        return false;
+        return Ok(false);
     }
-    check_input(size, false, false);
-    true
+    check_input(from, to, size, false, false)?;
+    Ok(true)
 }
 
-fn obey() -> bool {
-    let words = os::arg_count();
-    if words == 3 && asks(b"--pieces") {
-        return check_pieces();
+// Whether the words of the call are some that the program knows; then it does what they ask.
+fn obey<E: Env, R: Read, W: Write>(env: &E, from: &mut R, to: &mut W) -> io::Result<bool> {
+    if has_word(env, 2) && !has_word(env, 3) && asks(env, b"--pieces") {
+        return check_pieces(env, from, to);
     }
-    let blocks = words == 2 && asks(b"--blocks");
-    let report = words == 2 && asks(b"--report");
-    if 1 < words && !blocks && !report {
-        return false;
+    let asked = has_word(env, 1);
+    let alone = asked && !has_word(env, 2);
+    let blocks = alone && asks(env, b"--blocks");
+    let report = alone && asks(env, b"--report");
+    if asked && !blocks && !report {
+        return Ok(false);
     }
-    check_input(LARGEST, blocks || report, report);
-    true
+    check_input(from, to, LARGEST, blocks || report, report)?;
+    Ok(true)
 }
 
-fn main() {
-    if !obey() {
-        io::write_all(
-            STDERR_FILENO,
-            b"usage: sefcheck [--blocks | --report | --pieces BYTES]\n",
-        );
+fn main(rt: HostRuntime) -> io::Result<()> {
+    if !obey(&rt, &mut rt.stdin(), &mut rt.stdout())? {
+        eprintln!(rt; "usage: sefcheck [--blocks | --report | --pieces BYTES]")?;
     }
+    Ok(())
 }

@@ -2,50 +2,51 @@
 use layout::blocks::BLOCKS;
 use layout::parents::parent_at;
 use layout::rows::{ROWS, code_at};
-use libc::STDOUT_FILENO;
 use sef::State;
 use sef::answers::Numbers;
+use std::io;
+use std::io::Write;
 
-fn line(name: &[u8], n: u64) {
-    io::write_all(STDOUT_FILENO, name);
-    io::print_decimal(STDOUT_FILENO, n);
-    io::write_all(STDOUT_FILENO, b"\n");
+fn line<W: Write>(to: &mut W, name: &[u8], n: u64) -> io::Result<()> {
+    to.write_all(name)?;
+    writeln!(to, "{n}")
 }
 
-fn result(refusal: u64) {
+fn result<W: Write>(to: &mut W, refusal: u64) -> io::Result<()> {
     if refusal == 0 {
-        io::write_all(STDOUT_FILENO, b"result=accepted\n");
+        to.write_all(b"result=accepted\n")
     } else {
-        io::write_all(STDOUT_FILENO, b"result=refused\n");
+        to.write_all(b"result=refused\n")
     }
 }
 
 // The seven lines.
-pub fn answer(n: Numbers) {
-    result(n.refusal);
-    line(b"refusal=", n.refusal);
-    line(b"line=", n.line);
-    line(b"field=", n.field);
-    line(b"byte=", n.position);
-    line(b"lines=", n.lines);
-    line(b"bytes=", n.bytes);
+pub fn answer<W: Write>(to: &mut W, n: Numbers) -> io::Result<()> {
+    result(to, n.refusal)?;
+    line(to, b"refusal=", n.refusal)?;
+    line(to, b"line=", n.line)?;
+    line(to, b"field=", n.field)?;
+    line(to, b"byte=", n.position)?;
+    line(to, b"lines=", n.lines)?;
+    line(to, b"bytes=", n.bytes)
 }
 
-fn block(letter: u8, lines: u64) {
+fn block<W: Write>(to: &mut W, letter: u8, lines: u64) -> io::Result<()> {
     let name = [letter];
-    io::write_all(STDOUT_FILENO, b"block ");
-    io::write_all(STDOUT_FILENO, &name);
-    line(b"=", lines);
+    to.write_all(b"block ")?;
+    to.write_all(&name)?;
+    line(to, b"=", lines)
 }
 
 // Of each block its lines ended.
-pub fn blocks(s: State) {
+pub fn blocks<W: Write>(to: &mut W, s: State) -> io::Result<()> {
     let tally = s.tally;
     let totals = tally.totals;
     let letters = layout::blocks::letters();
     for x in 0..BLOCKS {
-        block(letters[x], totals[x]);
+        block(to, letters[x], totals[x])?;
     }
+    Ok(())
 }
 
 fn low_byte(n: u64) -> u8 {
@@ -53,26 +54,27 @@ fn low_byte(n: u64) -> u8 {
 }
 
 // A number that belongs to a row: the row is named by its code, four bytes as one number, the first byte highest.
-fn row(word: &[u8], code: u64, n: u64) {
+fn row<W: Write>(to: &mut W, word: &[u8], code: u64, n: u64) -> io::Result<()> {
     let name = [
         low_byte(code / 16777216),
         low_byte(code / 65536),
         low_byte(code / 256),
         low_byte(code),
     ];
-    io::write_all(STDOUT_FILENO, word);
-    io::write_all(STDOUT_FILENO, &name);
-    line(b"=", n);
+    to.write_all(word)?;
+    to.write_all(&name)?;
+    line(to, b"=", n)
 }
 
 // Of each row its lines ended, as a report has them.
-pub fn rows(s: State) {
+pub fn rows<W: Write>(to: &mut W, s: State) -> io::Result<()> {
     let mut counts = [0u64; ROWS];
     let _answer = sef::calls::report(s, &mut counts);
     let rows = row_table::table();
     for r in 0..ROWS {
-        row(b"row ", code_at(&rows, r), counts[r]);
+        row(to, b"row ", code_at(&rows, r), counts[r])?;
     }
+    Ok(())
 }
 
 // The deepest level: no more lines are open.
@@ -80,7 +82,7 @@ const DEEPEST: usize = 6;
 
 // The open lines, by their number in the file: the last line ended and its ancestors up to the opening. Of an open row it is the last
 // line.
-pub fn open_lines(s: State) {
+pub fn open_lines<W: Write>(to: &mut W, s: State) -> io::Result<()> {
     let hot = s.hot;
     let tally = s.tally;
     let last_lines = tally.stamps;
@@ -89,8 +91,9 @@ pub fn open_lines(s: State) {
     let mut r = hot.last;
     for _turn in 0..DEEPEST {
         if r < ROWS {
-            row(b"open ", code_at(&rows, r), last_lines[r]);
+            row(to, b"open ", code_at(&rows, r), last_lines[r])?;
             r = parent_at(&parents, r);
         }
     }
+    Ok(())
 }
