@@ -15,15 +15,12 @@ abbrev cut : ℕ
 cut = 500
 
 -- a wrong entry is refused with its place and the two numbers
-first_same : compared 0 (take cut TABLE) (take cut packed_kinds) ≡ same
+parts_same :
+    (compared 0 (take cut TABLE) (take cut packed_kinds) ≡ same)
+    × (compared cut (drop cut TABLE) (drop cut packed_kinds) ≡ same)
 unfolding compared packed_kinds flat_kinds joined_parts kind_number kinds_of fitted kind_of sheet_of sheets
     is_opening is_closing fields code listed row_table text_number code_number bytes
-first_same = refl
-
-rest_same : compared cut (drop cut TABLE) (drop cut packed_kinds) ≡ same
-unfolding compared packed_kinds flat_kinds joined_parts kind_number kinds_of fitted kind_of sheet_of sheets
-    is_opening is_closing fields code listed row_table text_number code_number bytes
-rest_same = refl
+parts_same = (refl, refl)
 
 pub returns : goal.returns
-returns c = same_parts cut first_same rest_same
+returns c = same_parts cut parts_same.0 parts_same.1
