@@ -71,7 +71,7 @@ pub fn moved(h: Hot, row: usize, fields: u64, kind: u64, says: u64) -> Hot
 // The lines since the last closing, once the line at hand has ended.
 fn since_with(rows: &[[u64; 4]; ENTRIES], h: Hot) -> u64
     requires hot_fit { HotFit h }
-    requires rows_value { rows.now ≡ row_numbers }
+    requires tables { rows.now ≡ row_numbers }
     ensures { result ≡ since_of h }
 {
     if layout::roles::is_closing(rows, h.row) {
@@ -83,7 +83,7 @@ fn since_with(rows: &[[u64; 4]; ENTRIES], h: Hot) -> u64
 // The line at hand has ended.
 pub fn ended(rows: &[[u64; 4]; ENTRIES], h: Hot) -> Hot
     requires hot_fit { HotFit h }
-    requires rows_value { rows.now ≡ row_numbers }
+    requires tables { rows.now ≡ row_numbers }
     ensures { result ≡ ended_of h }
 {
     Hot {

@@ -34,7 +34,7 @@ fn dates(h: Hot) -> u64
 // What a line says after a date: the dates of its period, if its row has one.
 pub fn dated(rows: &[[u64; 4]; ENTRIES], h: Hot) -> u64
     requires hot_fit { HotFit h }
-    requires rows_value { rows.now ≡ row_numbers }
+    requires tables { rows.now ≡ row_numbers }
     ensures { result ≡ dated_of h }
 {
     if period_at(rows, h.row) < PERIODS {
@@ -78,7 +78,7 @@ pub fn pair_rule(
     pairs: &[u64; PAIRS],
 ) -> u64
     requires hot_fit { HotFit h }
-    requires rows_value { (rows.now ≡ row_numbers) × (1 ≤ h.bars) }
+    requires tables { (rows.now ≡ row_numbers) × (1 ≤ h.bars) }
     ensures { result ≡ pair_rule_of h (repeated_of h counts.now pairs.now) (crowded_of h counts.now) }
 {
     let place = period_at(rows, h.row);

@@ -50,7 +50,7 @@ fn occurs(counts: &[u64; ROWS], r: usize) -> u64
 
 fn holds(counts: &[u64; ROWS], stated: &[u64; ENTRIES], r: usize) -> bool
     requires below { Below (byte_limit + 1) counts.now }
-    requires r_le_row_count { r ≤ row_count }
+    requires row_or_none { r ≤ row_count }
     ensures { result ≡ holds_of counts.now stated.now r }
 {
     let n = stated[r];

@@ -122,7 +122,7 @@ fn code_bar(
     r: usize,
 ) -> Step
     requires hot_fit { HotFit h }
-    requires rows_value { (rows.now ≡ row_numbers) × (parents.now ≡ parent_column) × (kinds.now ≡ packed_kinds) × (starts.now ≡ start_column) × (r ≤ row_count) }
+    requires tables { (rows.now ≡ row_numbers) × (parents.now ≡ parent_column) × (kinds.now ≡ packed_kinds) × (starts.now ≡ start_column) × (r ≤ row_count) }
     ensures { result ≡ code_bar_of h stamps.now occurrences.now r }
 {
     if r == ROWS {
@@ -149,7 +149,7 @@ fn code_bar(
 // What field 2 of a closing, or of 9999, must state. Block 9 counts 9999 ahead.
 fn due(rows: &[[u64; 4]; ENTRIES], h: Hot) -> u64
     requires hot_fit { HotFit h }
-    requires rows_value { rows.now ≡ row_numbers }
+    requires tables { rows.now ≡ row_numbers }
     ensures { result ≡ due_of h }
 {
     let r = h.row;
@@ -165,7 +165,7 @@ fn due(rows: &[[u64; 4]; ENTRIES], h: Hot) -> u64
 // What is due of a count; of any other field nothing is.
 fn due_of_count(rows: &[[u64; 4]; ENTRIES], h: Hot) -> u64
     requires hot_fit { HotFit h }
-    requires rows_value { rows.now ≡ row_numbers }
+    requires tables { rows.now ≡ row_numbers }
     ensures { result ≡ pick (eqb (h.kind % size_unit) count_class) (due_of h) 0 }
 {
     if h.kind % SIZE_UNIT == CLASS_COUNT {
@@ -184,7 +184,7 @@ fn found(
     pairs: &[u64; PAIRS],
 ) -> u64
     requires hot_fit { HotFit h }
-    requires rows_value { (rows.now ≡ row_numbers) × (1 ≤ h.bars) }
+    requires tables { (rows.now ≡ row_numbers) × (1 ≤ h.bars) }
     requires below { Below (byte_limit + 1) counts.now }
     ensures { result ≡ found_of h (asked_of h counts.now stated.now pairs.now) }
 {
@@ -208,7 +208,7 @@ fn found(
 // What a 9900 line says once field 2, or a later one, has ended.
 fn states(rows: &[[u64; 4]; ENTRIES], slots: &[usize; SLOTS], h: Hot) -> u64
     requires hot_fit { HotFit h }
-    requires rows_value { (rows.now ≡ row_numbers) × (slots.now ≡ slot_table) }
+    requires tables { (rows.now ≡ row_numbers) × (slots.now ≡ slot_table) }
     ensures { result ≡ states_of h }
 {
     if h.bars == CODE_FIELD {
@@ -220,7 +220,7 @@ fn states(rows: &[[u64; 4]; ENTRIES], slots: &[usize; SLOTS], h: Hot) -> u64
 // Field 2 of an opening says whether data is to come, a period's line its dates, a 9900 line how often a code occurs.
 fn says(rows: &[[u64; 4]; ENTRIES], slots: &[usize; SLOTS], h: Hot) -> u64
     requires hot_fit { HotFit h }
-    requires rows_value { (rows.now ≡ row_numbers) × (slots.now ≡ slot_table) }
+    requires tables { (rows.now ≡ row_numbers) × (slots.now ≡ slot_table) }
     ensures { result ≡ says_of h }
 {
     if h.kind == OPENS_KIND {
@@ -250,7 +250,7 @@ fn field_bar(
     n: u64,
 ) -> Step
     requires hot_fit { HotFit h }
-    requires rows_value { (rows.now ≡ row_numbers) × (kinds.now ≡ packed_kinds) × (starts.now ≡ start_column) × (1 ≤ h.bars) }
+    requires tables { (rows.now ≡ row_numbers) × (kinds.now ≡ packed_kinds) × (starts.now ≡ start_column) × (1 ≤ h.bars) }
     requires slots_value { slots.now ≡ slot_table }
     ensures { result ≡ field_bar_of h n }
 {
@@ -284,7 +284,7 @@ fn bar(
     requires hot_fit { HotFit h }
     requires tables { Tables rows.now parents.now kinds.now starts.now slots.now }
     requires below { Below (byte_limit + 1) counts.now }
-    requires le_bars { 1 ≤ h.bars }
+    requires begun { 1 ≤ h.bars }
     ensures { result ≡ bar_of h stamps.now occurrences.now (asked_of h counts.now stated.now pairs.now) }
 {
     if h.bars == 1 {
@@ -331,7 +331,7 @@ fn control(h: Hot, b: u8) -> Step
 // A byte past the last field.
 fn past(h: Hot, rows: &[[u64; 4]; ENTRIES], b: u8) -> Step
     requires hot_fit { HotFit h }
-    requires rows_value { rows.now ≡ row_numbers }
+    requires tables { rows.now ≡ row_numbers }
     ensures { result ≡ past_of h b }
 {
     let f = h.field;

@@ -29,7 +29,7 @@ fn put(array: &mut [u64; ROWS], r: usize, v: u64)
 // What a line of a row that has a period says is the next pair of its row, if there is room. So many have ended before it.
 fn paired(rows: &[[u64; 4]; ENTRIES], h: Hot, ended: u64, pairs: &mut [u64; PAIRS])
     requires hot_fit { HotFit h }
-    requires rows_value { rows.now ≡ row_numbers }
+    requires tables { rows.now ≡ row_numbers }
     ensures { pairs.new ≡ paired_of h ended pairs.old }
 {
     let place = period_at(rows, h.row);
@@ -49,7 +49,7 @@ pub fn counted(
     stamps: &mut [u64; ROWS],
     occurrences: &mut [u64; ROWS],
 )
-    requires parents_value { (parents.now ≡ parent_column) × (r ≤ row_count) }
+    requires tables { (parents.now ≡ parent_column) × (r ≤ row_count) }
     requires below { Below (byte_limit + 1) counts.old × Below (byte_limit + 1) occurrences.old }
     ensures counts_after { counts.new ≡ set_of counts.old r (entry_of counts.old r + 1) }
     ensures stamps_after { stamps.new ≡ set_of stamps.old r n }
@@ -74,7 +74,7 @@ pub fn noted(
     occurrences: &mut [u64; ROWS],
     pairs: &mut [u64; PAIRS],
 )
-    requires rows_value { (rows.now ≡ row_numbers) × (parents.now ≡ parent_column) }
+    requires tables { (rows.now ≡ row_numbers) × (parents.now ≡ parent_column) }
     requires hot_fit { HotFit h }
     requires below { Below (byte_limit + 1) counts.old × Below (byte_limit + 1) occurrences.old }
     ensures counts_after { counts.new ≡ counts_with h b counts.old }
@@ -102,7 +102,7 @@ pub fn raise(x: usize, totals: &mut [u64; BLOCKS])
 // The totals after a byte that was accepted: LF ends the line at hand, and the total of its block is one more.
 pub fn totalled(rows: &[[u64; 4]; ENTRIES], h: Hot, b: u8, totals: &mut [u64; BLOCKS])
     requires hot_fit { HotFit h }
-    requires rows_value { (rows.now ≡ row_numbers) × Below (byte_limit + 1) totals.old }
+    requires tables { (rows.now ≡ row_numbers) × Below (byte_limit + 1) totals.old }
     ensures { totals.new ≡ totals_with h b totals.old }
 {
     if b == LF {

@@ -59,7 +59,7 @@ fn judged(
     requires hot_fit { HotFit h }
     requires below { Below (byte_limit + 1) counts.old × Below (byte_limit + 1) occurrences.old × Below (byte_limit + 1) totals.old }
     ensures value { result ≡ step_with h (tally_of counts.old stamps.old occurrences.old totals.old stated.old pairs.old) b }
-    ensures pairs_after { tally_of counts.new stamps.new occurrences.new totals.new stated.new pairs.new ≡ kept_after result h b (tally_of counts.old stamps.old occurrences.old totals.old stated.old pairs.old) }
+    ensures tally_after { tally_of counts.new stamps.new occurrences.new totals.new stated.new pairs.new ≡ kept_after result h b (tally_of counts.old stamps.old occurrences.old totals.old stated.old pairs.old) }
 {
     let t = judge(
         h,

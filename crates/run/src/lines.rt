@@ -94,7 +94,7 @@ fn head_past(
     s: &[u8],
     p: Place,
 ) -> Place
-    requires rows_value { (rows.now ≡ row_numbers) × (parents.now ≡ parent_column) × (silent.now ≡ silent_column) × (starts.now ≡ start_column) × (slots.now ≡ slot_table) }
+    requires tables { (rows.now ≡ row_numbers) × (parents.now ≡ parent_column) × (silent.now ≡ silent_column) × (starts.now ≡ start_column) × (slots.now ≡ slot_table) }
     requires placed { Placed p × (p.row ≡ none) × (p.last ≤ row_count) × (p.at + 6 ≤ length s.now) }
     ensures { Headed s.now stamps.now occurrences.now p result }
 {
@@ -138,7 +138,7 @@ fn begun(
     s: &[u8],
     p: Place,
 ) -> Place
-    requires rows_value { (rows.now ≡ row_numbers) × (parents.now ≡ parent_column) × (silent.now ≡ silent_column) × (starts.now ≡ start_column) × (slots.now ≡ slot_table) }
+    requires tables { (rows.now ≡ row_numbers) × (parents.now ≡ parent_column) × (silent.now ≡ silent_column) × (starts.now ≡ start_column) × (slots.now ≡ slot_table) }
     requires placed { Placed p × (p.last ≤ row_count) × (p.at + 6 ≤ length s.now) }
     ensures { Headed s.now stamps.now occurrences.now p result }
 {
@@ -161,7 +161,7 @@ fn begun(
 // Over whole fields, as far as they go. Behind a row's last field stands the next row's code, whose kind is never passed: so the
 // number of fields is not asked here.
 fn fields_past(kinds: &[u32; FIELDS], s: &[u8], safe: usize, p: Place) -> Place
-    requires kinds_value { (kinds.now ≡ packed_kinds) × (safe ≤ length s.now - margin) }
+    requires tables { (kinds.now ≡ packed_kinds) × (safe ≤ length s.now - margin) }
     requires placed { Placed p × (p.row < row_count) × (p.at < safe + longest) }
     ensures { Fielded s.now safe p result }
 {
@@ -300,7 +300,7 @@ pub fn lines_from(
 ) -> Hot
     requires tables { Tables rows.now parents.now kinds.now starts.now slots.now × (silent.now ≡ silent_column) }
     requires held { Held h (tally_of counts.old stamps.old occurrences.old totals.old [] []) }
-    requires i_in_bounds { (i ≤ length s.now) × (i ≤ h.bytes) }
+    requires inside { (i ≤ length s.now) × (i ≤ h.bytes) }
     ensures { Onward s.now (h.bytes - i) i h counts.old stamps.old occurrences.old totals.old result counts.new stamps.new occurrences.new totals.new }
 {
     if !begins(rows, silent, kinds, starts, h) {

@@ -76,7 +76,7 @@ fn starts_field(
     h: Hot,
 ) -> bool
     requires hot_fit { HotFit h }
-    requires rows_value { (rows.now ≡ row_numbers) × (silent.now ≡ silent_column) × (kinds.now ≡ packed_kinds) × (starts.now ≡ start_column) }
+    requires tables { (rows.now ≡ row_numbers) × (silent.now ≡ silent_column) × (kinds.now ≡ packed_kinds) × (starts.now ≡ start_column) }
     ensures { result ≡ true → StartsField h }
 {
     if h.bars < 2 {
@@ -104,7 +104,7 @@ pub fn begins(
     h: Hot,
 ) -> bool
     requires hot_fit { HotFit h }
-    requires rows_value { (rows.now ≡ row_numbers) × (silent.now ≡ silent_column) × (kinds.now ≡ packed_kinds) × (starts.now ≡ start_column) }
+    requires tables { (rows.now ≡ row_numbers) × (silent.now ≡ silent_column) × (kinds.now ≡ packed_kinds) × (starts.now ≡ start_column) }
     ensures { result ≡ true → Begins h }
 {
     if !is_fresh(h) {
@@ -119,7 +119,7 @@ pub fn begins(
 // Where the kind of the field at hand stands in the table of kinds.
 fn index_of(starts: &[usize; ENTRIES], h: Hot) -> usize
     requires hot_fit { HotFit h }
-    requires starts_value { starts.now ≡ start_column }
+    requires tables { starts.now ≡ start_column }
     ensures { result ≡ index_of h }
 {
     if h.bars == 0 {
@@ -131,7 +131,7 @@ fn index_of(starts: &[usize; ENTRIES], h: Hot) -> usize
 
 pub fn place_of(starts: &[usize; ENTRIES], h: Hot, i: usize) -> Place
     requires hot_fit { HotFit h }
-    requires starts_value { starts.now ≡ start_column }
+    requires tables { starts.now ≡ start_column }
     ensures { result ≡ place_of h i }
 {
     Place {
@@ -172,7 +172,7 @@ pub fn hot_at(
     bytes: u64,
 ) -> Hot
     requires placed { Placed p }
-    requires rows_value { (rows.now ≡ row_numbers) × (kinds.now ≡ packed_kinds) × (starts.now ≡ start_column) }
+    requires tables { (rows.now ≡ row_numbers) × (kinds.now ≡ packed_kinds) × (starts.now ≡ start_column) }
     ensures { result ≡ hot_at p bytes }
 {
     let r = p.row;

@@ -55,7 +55,7 @@ module _ (h : Hot) (counts pairs : List ℕ) (place : ℕ) (at_place : place ≡
 
 pub returns-then-place-ge-PERIODS : goal.returns-then-place-ge-PERIODS
 returns-then-place-ge-PERIODS c =
-    sym (none _ _ _ _ c.period_at-place.ensures c.if-place-ge-PERIODS.true c.requires.rows_value.1)
+    sym (none _ _ _ _ c.period_at-place.ensures c.if-place-ge-PERIODS.true c.requires.tables.1)
 
 pub returns-then-h-later_at : goal.returns-then-h-later_at
 returns-then-h-later_at c =

@@ -13,7 +13,7 @@ unfolding all_hold_of
 loop-i-init c = (search rules, refl)
 
 pub holds-requires : goal.holds-requires
-holds-requires c = record { below = c.requires; r_le_row_count = omega arith }
+holds-requires c = record { below = c.requires; row_or_none = omega arith }
 
 pub returns-then-not-holds : goal.returns-then-not-holds
 returns-then-not-holds c =

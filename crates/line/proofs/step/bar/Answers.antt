@@ -8,7 +8,7 @@ code_bar-requires c =
     let t = c.requires.tables in
     record {
       hot_fit = c.requires.hot_fit;
-      rows_value = (t.rows, t.parents, t.kinds, t.starts, rw c.word_row.ensures (word_row_le c.args.h));
+      tables = (t.rows, t.parents, t.kinds, t.starts, rw c.word_row.ensures (word_row_le c.args.h));
     }
 
 pub returns-then-h-eq1 : goal.returns-then-h-eq1

@@ -20,7 +20,7 @@ returns-then-h c = search steps depth 12
 pub bar-requires : goal.bar-requires
 bar-requires c =
     let p = c.requires in
-    record { hot_fit = p.hot_fit; tables = p.tables; below = p.below; le_bars = omega arith }
+    record { hot_fit = p.hot_fit; tables = p.tables; below = p.below; begun = omega arith }
 
 pub returns-then-b-eq-BAR : goal.returns-then-b-eq-BAR
 unfolding step_of in_field_of

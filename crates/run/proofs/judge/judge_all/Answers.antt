@@ -21,7 +21,7 @@ returns-in_default c =
     let all : AllBytes c.args.piece.now = λ k. (c.type_inv.piece k).fits in
     let g = going_on c.loop-i.invariant all c.lines_from-h.ensures in
     let e = c.judged-t.ensures in
-    going_stop g c.if-i-piece.true _ _ _ e.value c.in_default.is _ (c.tally_of-kept.ensures ∙ e.pairs_after) _
+    going_stop g c.if-i-piece.true _ _ _ e.value c.in_default.is _ (c.tally_of-kept.ensures ∙ e.tally_after) _
     c.ended_by.ensures
 
 pub loop-i-preserved-then-i-piece : goal.loop-i-preserved-then-i-piece
@@ -29,7 +29,7 @@ loop-i-preserved-then-i-piece c =
     let all : AllBytes c.args.piece.now = λ k. (c.type_inv.piece k).fits in
     let g = going_on c.loop-i.invariant all c.lines_from-h.ensures in
     let e = c.judged-t.ensures in
-    going_next g c.if-i-piece.true (all _) _ _ e.value c.in-Next.is _ e.pairs_after
+    going_next g c.if-i-piece.true (all _) _ _ e.value c.in-Next.is _ e.tally_after
 
 pub loop-i-preserved : goal.loop-i-preserved
 loop-i-preserved c =

@@ -22,5 +22,5 @@ overflow_add-index c =
 pub loop-i-preserved : goal.loop-i-preserved
 loop-i-preserved c =
     let pre = c.requires in
-    let past = rw pre.kinds_value.0 at (c.field_past-j.ensures (omega (arith, c.if-j-eq0.false))) in
-    fielded_next _ _ _ pre.placed.1 _ _ _ pre.kinds_value.1 c.loop-i-test.true c.loop-i.invariant past.0 past.1
+    let past = rw pre.tables.0 at (c.field_past-j.ensures (omega (arith, c.if-j-eq0.false))) in
+    fielded_next _ _ _ pre.placed.1 _ _ _ pre.tables.1 c.loop-i-test.true c.loop-i.invariant past.0 past.1

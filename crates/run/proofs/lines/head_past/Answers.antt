@@ -20,7 +20,7 @@ pub overflow_add-result-2 : goal.overflow_add-result-2
 overflow_add-result-2 c =
     let r = c.row_from-r.result in
     let known = silent_row r (c.follows.ensures c.if-not-follows.false).silent in
-    omega (arith, kind_within c.args.starts.now r 2 c.requires.rows_value.3 known (omega arith) (fields_two r known))
+    omega (arith, kind_within c.args.starts.now r 2 c.requires.tables.3 known (omega arith) (fields_two r known))
 
 pub returns : goal.returns
 returns c =
@@ -28,7 +28,7 @@ returns c =
     let r = c.row_from-r.result in
     let follows = c.follows.ensures c.if-not-follows.false in
     let known = silent_row r follows.silent in
-    let begins : get_or c.args.starts.now r 0 ≡ row_start r = rw c.requires.rows_value.3 (start_entry r (omega arith)) in
+    let begins : get_or c.args.starts.now r 0 ≡ row_start r = rw c.requires.tables.3 (start_entry r (omega arith)) in
     let head = c.row_from-r.ensures.1 known in
     rw begins
     (over_head _ _ _ c.args.p p.0 (λ k. (c.type_inv.s k).fits) p.3 p.1 r follows

@@ -14,7 +14,7 @@ begun-p-requires c =
     let tables = c.requires.tables.0 in
     let inv = c.loop-p.invariant in
     let fits = rw (← c.safe_of-safe.ensures) at (safe_length c.args.before (length c.args.s.now)) in
-    record { rows_value = (tables.rows, tables.parents, c.requires.tables.1, tables.starts, tables.slots); placed = (inv.placed, (place_fit _ _ inv.held.fit).last, omega (arith, fits, c.loop-p-test.true)) }
+    record { tables = (tables.rows, tables.parents, c.requires.tables.1, tables.starts, tables.slots); placed = (inv.placed, (place_fit _ _ inv.held.fit).last, omega (arith, fits, c.loop-p-test.true)) }
 
 pub returns-then-r-eq-ROWS : goal.returns-then-r-eq-ROWS
 returns-then-r-eq-ROWS c =
@@ -25,7 +25,7 @@ pub fields_past-p-requires : goal.fields_past-p-requires
 fields_past-p-requires c =
     let head = c.begun-p.ensures in
     let fits = rw (← c.safe_of-safe.ensures) at (safe_length c.args.before (length c.args.s.now)) in
-    record { kinds_value = (c.requires.tables.0.kinds, fits); placed = (head.placed, omega (arith, head.placed.row, c.if-r-eq-ROWS.false), omega (arith, head.near, c.loop-p-test.true)) }
+    record { tables = (c.requires.tables.0.kinds, fits); placed = (head.placed, omega (arith, head.placed.row, c.if-r-eq-ROWS.false), omega (arith, head.near, c.loop-p-test.true)) }
 
 pub ends_here-requires : goal.ends_here-requires
 ends_here-requires c =
@@ -60,7 +60,7 @@ pub counted-requires : goal.counted-requires
 counted-requires c =
     let small = held_small _ _ c.loop-p.invariant.held in
     record {
-      parents_value = (c.requires.tables.0.parents, omega (arith, c.begun-p.ensures.placed.row));
+      tables = (c.requires.tables.0.parents, omega (arith, c.begun-p.ensures.placed.row));
       below = (small.0, small.1);
     }
 

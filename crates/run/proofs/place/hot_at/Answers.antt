@@ -11,17 +11,17 @@ returns-then-r-eq-ROWS c =
 pub overflow_sub-bars : goal.overflow_sub-bars
 overflow_sub-bars c =
     let placed = c.requires.placed in
-    omega (arith, start_at _ _ c.requires.rows_value.2 placed.row, placed.from (omega (arith, placed.row)))
+    omega (arith, start_at _ _ c.requires.tables.2 placed.row, placed.from (omega (arith, placed.row)))
 
 pub overflow_add-bars : goal.overflow_add-bars
 overflow_add-bars c =
     let placed = c.requires.placed in
-    omega (arith, start_at _ _ c.requires.rows_value.2 placed.row, bars_within c.args.p placed (omega (arith, placed.row)))
+    omega (arith, start_at _ _ c.requires.tables.2 placed.row, bars_within c.args.p placed (omega (arith, placed.row)))
 
 pub kind_of-requires : goal.kind_of-requires
 kind_of-requires c =
     let placed = c.requires.placed in
-    let tables = c.requires.rows_value in
+    let tables = c.requires.tables in
     let begun = placed.from (omega (arith, placed.row)) in
     (tables.0, tables.1, tables.2, placed.row, omega (arith, start_at _ _ tables.2 placed.row))
 
@@ -33,5 +33,5 @@ returns c =
       c.fields_at.ensures,
       c.kind_of.ensures,
       c.start.ensures,
-      start_at _ _ c.requires.rows_value.2 placed.row,
+      start_at _ _ c.requires.tables.2 placed.row,
     )

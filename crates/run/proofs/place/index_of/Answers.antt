@@ -11,9 +11,9 @@ returns-then-h-eq0 c = rw (eq-eqb _ _ c.if-h-eq0.true)
 pub overflow_add-result : goal.overflow_add-result
 overflow_add-result c =
     let fit = c.requires.hot_fit in
-    omega (arith, start_at _ _ c.requires.starts_value fit.row, start_most c.args.h.row fit.row, fit.bars)
+    omega (arith, start_at _ _ c.requires.tables fit.row, start_most c.args.h.row fit.row, fit.bars)
 
 pub returns : goal.returns
 unfolding index_of
 returns c =
-    rw (ne_eqb _ _ c.if-h-eq0.false, start_at _ _ c.requires.starts_value c.requires.hot_fit.row)
+    rw (ne_eqb _ _ c.if-h-eq0.false, start_at _ _ c.requires.tables c.requires.hot_fit.row)
