@@ -20,8 +20,9 @@ small c =
     (number_small c.loop-k.k a.s.now a.i (omega (arith, h.0))
     (λ k l. leading_digits 16 a.s.now a.i k (omega (arith, h.2))))
 
-small-2 : (c : goal.After-shared_slice_known-1) → c.loop-k.v < cap
-small-2 c =
+-- the same where the digit is read
+small_at_digit : (c : goal.After-shared_slice_known-1) → c.loop-k.v < cap
+small_at_digit c =
     let a = c.args in
     let h = c.requires in
     rw c.loop-k.invariant.1
@@ -41,7 +42,7 @@ pub overflow_sub-v : goal.overflow_sub-v
 overflow_sub-v c = omega (arith, digit_bounds _ (digit c))
 
 pub overflow_add-v-in-loop-k : goal.overflow_add-v-in-loop-k
-overflow_add-v-in-loop-k c = omega (arith, small-2 c, digit_bounds _ (digit c))
+overflow_add-v-in-loop-k c = omega (arith, small_at_digit c, digit_bounds _ (digit c))
 
 pub loop-k-preserved : goal.loop-k-preserved
 unfolding number_at
