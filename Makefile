@@ -24,7 +24,7 @@ shown: kit cargo
 
 # Executed instructions a byte beside the C peer's, and the bounds they are held to: ends with 1 if one is broken. Not part of the tests.
 bench: kit
-	@[ -x target/bin/sefcheck ] || rt check sefcheck
+	@tools/build sefcheck
 	@bench/bench.sh
 
 # The benchmark's C peer against the independent checker. Not part of the tests.

@@ -1,18 +1,18 @@
 #!/usr/bin/env bash
-# bench.sh [PROGRAM]: compares PROGRAM (target/bin/sefcheck), a checker that reads standard input and
-# prints the seven lines, with the C peer beside this script: executed x86-64
+# bench.sh [PROGRAM]: compares PROGRAM (crates/sefcheck/out/sefcheck), a checker that reads standard input
+# and prints the seven lines, with the C peer beside this script: executed x86-64
 # instructions a byte on accepted files of 1, 2 and 4 MB and how they grow, in
 # pieces of 64 KiB, 4 KiB and 512 bytes, and on the worst file; and the times
 # over a file of 64 MB. Beside a figure stands its bound, if it has one.
-# On x86-64 callgrind counts the instructions: some three minutes. Elsewhere
-# the kit's emulator does, which takes some ten, and times are not taken.
+# Callgrind counts the instructions: some three minutes. Programs are for
+# x86-64, and on another machine nothing is measured.
 # Ends with 0 if the answers are the same, all was measured and every bound is
 # kept; with 1 if a bound is broken; else with 2.
 set -u
 export LC_ALL=C
 
 here=$(cd "$(dirname "$0")" && pwd -P)
-program=${1:-$here/../target/bin/sefcheck}
+program=${1:-$here/../crates/sefcheck/out/sefcheck}
 seed=1
 sizes="1 2 4"
 long=64
@@ -36,68 +36,22 @@ check_program() {
   [ "$(head -c 2 "$program" | tr -d '\0')" != '#!' ] || stop "$program is a script: name the binary, or the shell is measured"
 }
 
-# How programs are started and counted: on x86-64 as they are, and elsewhere in the kit's emulator.
-
-native() { [ "$(uname -m)" = x86_64 ]; }
-
-find_tools() {
-  if native; then
-    compiler="cc"
-    counter="callgrind"
-    program_call=("$program")
-    command -v valgrind > /dev/null || stop "valgrind is missing: install it with 'apt-get install valgrind' (or dnf, pacman)"
-    return
-  fi
-  compiler="x86_64-linux-gnu-gcc -static"
-  counter="the kit's emulator"
-  command -v x86_64-linux-gnu-gcc > /dev/null ||
-    stop "the peer is built for x86-64 by x86_64-linux-gnu-gcc: install it with 'apt-get install gcc-x86-64-linux-gnu'"
-  find_emulator
-}
-
-find_emulator() {
-  local guide kit
-  guide=$(rt doc) || stop "the Rattle kit's command rt is not on the PATH"
-  kit=${guide%/docs/START-HERE.md}/on/$(uname -m)/toolchain
-  emulator=$kit/bin/qemu-x86_64
-  [ -x "$emulator" ] || stop "$emulator: the kit's emulator is not there"
-  program_call=("$kit/lib/ld-linux-x86-64.so.2" --library-path "$kit/lib" "$program")
-}
-
-start() { # start WORDS..: a program
-  if native; then "$@"; else "$emulator" "$@"; fi
+check_machine() {
+  [ "$(uname -m)" = x86_64 ] || stop "programs are for x86-64, and this machine is $(uname -m)"
+  command -v valgrind > /dev/null || stop "valgrind is missing: install it with 'apt-get install valgrind' (or dnf, pacman)"
 }
 
 # A string move is one instruction, but callgrind counts each byte of it: so the C library is told to copy by vector moves, each of which counts.
 vector_moves="GLIBC_TUNABLES=glibc.cpu.x86_rep_movsb_threshold=0x10000000:glibc.cpu.x86_rep_stosb_threshold=0x10000000"
 
 counted() { # counted WORDS..: executed instructions of a program whose answer goes to counted.out
-  if native; then
-    env "$vector_moves" valgrind --tool=callgrind --callgrind-out-file=/dev/null --log-file="$dir/log" "$@" > "$dir/counted.out" 2> /dev/null
-    sed -n 's/.*Collected : \([0-9]*\).*/\1/p' "$dir/log"
-  else
-    { "$emulator" -d nochain,exec,op -D /dev/fd/3 "$@" 3>&1 > "$dir/counted.out" 2> /dev/null; } | add_up
-  fi
-}
-
-# The emulator's log: once for each run of instructions what it consists of, after OP:, a line for each; and whenever it is executed a Trace
-# line, with its place in the emulator. An instruction with a rep prefix counts once, though each turn of it is a run of its own.
-add_up() {
-  awk '
-    $1 == "Trace" {
-      if (fresh) { size[$3] = n; first[$3] = from; last[$3] = to; fresh = 0 }
-      if (size[$3] != 1 || first[$3] != before) total += size[$3]
-      before = last[$3]
-      next
-    }
-    $1 == "OP:" { fresh = 1; n = 0 }
-    $1 == "----" { if (n++ == 0) from = $2; to = $2 }
-    END { printf "%.0f", total }'
+  env "$vector_moves" valgrind --tool=callgrind --callgrind-out-file=/dev/null --log-file="$dir/log" "$@" > "$dir/counted.out" 2> /dev/null
+  sed -n 's/.*Collected : \([0-9]*\).*/\1/p' "$dir/log"
 }
 
 build() {
-  $compiler $flags -O3 -o "$dir/peer" "$here/peer.c" || stop "the peer does not build"
-  $compiler $flags -O3 -DBYTE_BY_BYTE -o "$dir/stepper" "$here/peer.c" || stop "the stepping peer does not build"
+  cc $flags -O3 -o "$dir/peer" "$here/peer.c" || stop "the peer does not build"
+  cc $flags -O3 -DBYTE_BY_BYTE -o "$dir/stepper" "$here/peer.c" || stop "the stepping peer does not build"
   cc $flags -O2 -o "$dir/make_file" "$here/make_file.c" || stop "make_file does not build"
 }
 
@@ -109,7 +63,6 @@ bytes() { wc -c < "$(file "$1")" | tr -d ' '; } # bytes NAME
 
 make_files() {
   local mb
-  native || long=
   for mb in $sizes $long; do
     "$dir/make_file" "$seed" "${mb}000000" > "$(file "$mb")" || stop "the file of $mb MB can't be made"
   done
@@ -119,7 +72,7 @@ make_files() {
 check_answers() {
   local name size
   for name in $sizes $long worst; do
-    start "$dir/peer" < "$(file "$name")" > "$dir/answer.$name"
+    "$dir/peer" < "$(file "$name")" > "$dir/answer.$name"
     grep -qx 'result=accepted' "$dir/answer.$name" || stop "the peer refuses the file $name"
     same_answer "$name"
   done
@@ -133,7 +86,7 @@ check_answers() {
 same_answer() { # same_answer NAME WORDS..: the program's, asked with these words
   local name=$1
   shift
-  start "${program_call[@]}" "$@" < "$(file "$name")" > "$dir/program.out" 2> "$dir/program.err"
+  "$program" "$@" < "$(file "$name")" > "$dir/program.out" 2> "$dir/program.err"
   cmp -s "$dir/program.out" "$dir/answer.$name" ||
     stop "different answers on the file $name: program $* $(show program.out), peer $(show "answer.$name")"
 }
@@ -166,7 +119,7 @@ count() { # count NAME WORDS..: executed instructions on this file
 count_sizes() { # lines: MB bytes program peer
   local mb of_program of_peer
   for mb in $sizes; do
-    of_program=$(count "$mb" "${program_call[@]}") || exit 2
+    of_program=$(count "$mb" "$program") || exit 2
     of_peer=$(count "$mb" "$dir/peer") || exit 2
     printf '%s %s %s %s\n' "$mb" "$(bytes "$mb")" "$of_program" "$of_peer"
   done
@@ -203,7 +156,7 @@ growth() {
 in_pieces() {
   local size counts each
   for size in $pieces; do
-    counts=$(count 1 "${program_call[@]}" --pieces "$size") || exit 2
+    counts=$(count 1 "$program" --pieces "$size") || exit 2
     each=$(quotient "$counts" "$(bytes 1)")
     printf 'file of 1 MB in pieces of %s bytes: program %s a byte%s\n' "$size" "$each" "$(bound "$each" "${most_in_pieces[$size]}")"
   done
@@ -212,7 +165,7 @@ in_pieces() {
 worst_file() { # most of it is stepped byte by byte: so the peer is also held to that, as the like to compare with
   local length of_program of_peer steps
   length=$(bytes worst)
-  of_program=$(count worst "${program_call[@]}") || exit 2
+  of_program=$(count worst "$program") || exit 2
   of_peer=$(count worst "$dir/peer") || exit 2
   steps=$(count worst "$dir/stepper") || exit 2
   printf 'worst file, %s bytes: program %s a byte, peer %s, ratio of program to peer %s; peer stepping byte by byte %s, ratio of program to it %s\n' \
@@ -221,7 +174,7 @@ worst_file() { # most of it is stepped byte by byte: so the peer is also held to
 }
 
 instructions() {
-  printf 'executed instructions, counted by %s:\n' "$counter"
+  echo 'executed instructions, counted by callgrind:'
   whole_files
   growth
   in_pieces
@@ -242,7 +195,6 @@ time_all() { # lines: program peer, taken in turns
 
 times() {
   local of_program of_peer ratio
-  native || { echo "times are not taken: the programs are x86-64, and in an emulator a time says nothing"; return; }
   read -r of_program of_peer <<< "$(time_all | awk 'NR == 1 || $1 < p { p = $1 } NR == 1 || $2 < q { q = $2 } END { print p, q }')"
   ratio=$(quotient "$of_program" "$of_peer")
   printf 'times over %s MB, best of %s: program %s s, peer %s s, ratio of program to peer %s%s\n' \
@@ -250,7 +202,7 @@ times() {
 }
 
 check_program "$@"
-find_tools
+check_machine
 dir=$(mktemp -d) || stop "no place for files"
 trap 'rm -rf "$dir"' EXIT
 build
