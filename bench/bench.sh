@@ -4,7 +4,7 @@
 # instructions a byte on accepted files of 1, 2 and 4 MB and how they grow, in
 # pieces of 64 KiB, 4 KiB and 512 bytes, and on the worst file; and the times
 # over a file of 64 MB. Beside a figure stands its bound, if it has one.
-# Callgrind counts the instructions: some three minutes. Programs are for
+# Callgrind counts the instructions. All takes less than a minute. Programs are for
 # x86-64, and on another machine nothing is measured.
 # Ends with 0 if the answers are the same, all was measured and every bound is
 # kept; with 1 if a bound is broken; else with 2.
