@@ -10,3 +10,5 @@ pub mod FieldSim
 pub mod PairSim
 pub mod Sim
 pub mod PositionSim
+pub mod StepLines
+pub mod TallyRanges

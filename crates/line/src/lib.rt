@@ -2,7 +2,9 @@
 #![tactic(auto)]
 
 pub mod hot;
+pub mod notes;
 pub mod order;
 pub mod periods;
 pub mod statements;
 pub mod step;
+pub mod tally;

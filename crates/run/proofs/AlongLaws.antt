@@ -12,10 +12,11 @@ use Rattle.rules.proofs.TestLaws.{split}
 use Rattle.whole.specs.Whole.{longest, margin}
 use Rattle.line.specs.Machine.{HotFit, entry_of, used_of}
 use Rattle.line.specs.declared.hot.Hot.{Hot}
-use Rattle.state.specs.Ranges.{Held}
-use Rattle.state.specs.declared.Tally.{Tally}
+use Rattle.line.specs.Tally.{Held}
+use Rattle.line.specs.declared.tally.Tally.{Tally}
 use Rattle.run.specs.declared.place.Place.{Place}
-use Rattle.piece.specs.Piece.{set_of, raised_of, tally_of, AllBytes}
+use Rattle.line.specs.Tally.{set_of, raised_of, tally_of}
+use Rattle.state.specs.Piece.{AllBytes}
 use Rattle.run.specs.Places.{hot_at, Placed, place_of, Begins, PassesTo, Headed, Fielded, EndsHere}
 use Rattle.run.specs.Places.{next_line, safe_of, Along, Onward}
 use Rattle.run.specs.Places.Passes.{here}

@@ -15,10 +15,10 @@ use Rattle.field.proofs.LengthLaws.{one_longer}
 use Rattle.line.specs.Machine.{Asked, entry_of, used_of, grown_of, ended_of, since_of, past_of, step_of}
 use Rattle.line.specs.declared.hot.Hot.{Hot}
 use Rattle.line.specs.declared.step.Step.TheVariants.{Next}
-use Rattle.state.specs.declared.Tally.{Tally}
+use Rattle.line.specs.declared.tally.Tally.{Tally}
 use Rattle.run.specs.declared.place.Place.{Place}
-use Rattle.piece.specs.Piece.{set_of, counts_with, stamps_with, occurrences_with, raised_of, totals_with, stated_with, paired_of, pairs_with}
-use Rattle.piece.specs.Piece.{tally_of, tally_with}
+use Rattle.line.specs.Tally.{set_of, counts_with, stamps_with, occurrences_with, raised_of, totals_with, stated_with, paired_of, pairs_with}
+use Rattle.line.specs.Tally.{tally_of, tally_with}
 use Rattle.layout.specs.Silent.{is_silent}
 use Rattle.run.specs.Places.{Passes, line_start, field_start, PassesTo, EndsHere, next_line}
 use Rattle.run.specs.Places.Passes.{here, byte}

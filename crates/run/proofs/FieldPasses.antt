@@ -27,7 +27,7 @@ use Rattle.line.proofs.HotOf.{pick_same}
 use Rattle.field.specs.declared.bytes.Field.{Field}
 use Rattle.line.specs.declared.hot.Hot.{Hot}
 use Rattle.line.specs.declared.step.Step.TheVariants.{Next}
-use Rattle.state.specs.declared.Tally.{Tally}
+use Rattle.line.specs.declared.tally.Tally.{Tally}
 use Rattle.run.specs.declared.place.Place.{Place}
 use Rattle.layout.specs.Silent.{is_silent}
 use Rattle.run.specs.Places.{Passes, bars_at, field_start, Placed, PassesTo, Fielded}

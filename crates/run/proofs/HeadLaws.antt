@@ -27,9 +27,10 @@ use Rattle.whole.specs.Whole.{ends}
 use Rattle.line.specs.Machine.{code_kind, code_only, word_row, code_bar_of, bar_of, in_field_of, start_of, step_of}
 use Rattle.line.specs.declared.hot.Hot.{Hot}
 use Rattle.line.specs.declared.step.Step.TheVariants.{Next}
-use Rattle.state.specs.declared.Tally.{Tally}
+use Rattle.line.specs.declared.tally.Tally.{Tally}
 use Rattle.run.specs.declared.place.Place.{Place}
-use Rattle.piece.specs.Piece.{step_with, AllBytes}
+use Rattle.line.specs.Tally.{step_with}
+use Rattle.state.specs.Piece.{AllBytes}
 use Rattle.run.specs.Places.{Passes, code_at, Follows, line_start, field_start, PassesTo, Placed, Headed}
 use Rattle.run.specs.Places.Passes.{here}
 use Rattle.run.proofs.PassLaws.{no_control, no_bar, no_end, passes_join, passes_byte}

@@ -9,12 +9,13 @@ use lib.Seq.{drop-cons, drop-length}
 use Rattle.line.specs.declared.hot.Hot.{Hot}
 use Rattle.line.specs.declared.step.Step.{Step}
 use Rattle.line.specs.declared.step.Step.TheVariants.{Next, Broken}
-use Rattle.state.specs.Ranges.{Held}
-use Rattle.state.specs.declared.Tally.{Tally}
+use Rattle.line.specs.Tally.{Held}
+use Rattle.line.specs.declared.tally.Tally.{Tally}
 use Rattle.state.specs.declared.answers.Checked.{Checked}
-use Rattle.piece.specs.Piece.{tally_of, tally_with, open_of, stopped_of, on_step, step_with, kept_after, run_of, AllBytes}
+use Rattle.line.specs.Tally.{tally_of, tally_with, on_step, step_with, kept_after}
+use Rattle.state.specs.Piece.{open_of, stopped_of, run_of, AllBytes}
 use Rattle.run.specs.Places.{Onward}
-use Rattle.piece.proofs.RunLaws.{bytes_next, held_next}
+use Rattle.state.proofs.RunLaws.{bytes_next, held_next}
 use Rattle.run.proofs.PassLaws.{bytes_from, passes_run, passes_held}
 
 -- The loop's invariant: the run from the start is the run from here over what is left of the piece.

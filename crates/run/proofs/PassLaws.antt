@@ -13,13 +13,13 @@ use Rattle.rules.proofs.TestLaws.{or_fails}
 use Rattle.whole.specs.Whole.{ends}
 use Rattle.line.specs.declared.hot.Hot.{Hot}
 use Rattle.line.specs.declared.step.Step.TheVariants.{Next}
-use Rattle.state.specs.Ranges.{Held}
-use Rattle.state.specs.declared.Tally.{Tally}
-use Rattle.piece.specs.Piece.{counts_with, stamps_with, occurrences_with, totals_with, stated_with, pairs_with, tally_with, step_with}
-use Rattle.piece.specs.Piece.{run_of, AllBytes}
+use Rattle.line.specs.Tally.{Held}
+use Rattle.line.specs.declared.tally.Tally.{Tally}
+use Rattle.line.specs.Tally.{counts_with, stamps_with, occurrences_with, totals_with, stated_with, pairs_with, tally_with, step_with}
+use Rattle.state.specs.Piece.{run_of, AllBytes}
 use Rattle.run.specs.Places.{Passes}
 use Rattle.run.specs.Places.Passes.{here, byte}
-use Rattle.piece.proofs.RunLaws.{held_next}
+use Rattle.state.proofs.RunLaws.{held_next}
 
 pub bytes_from : (s : List ℕ) → AllBytes s → (i : ℕ) → AllBytes (drop i s)
 bytes_from s all i k = rw (get_or-drop i s k 0) (all (i + k))

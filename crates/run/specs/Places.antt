@@ -12,10 +12,10 @@ use Rattle.whole.specs.Whole.{longest, margin}
 use Rattle.line.specs.Machine.{code_kind, code_only, stands_of, misplaced_of, room_of}
 use Rattle.line.specs.declared.hot.Hot.{Hot}
 use Rattle.line.specs.declared.step.Step.TheVariants.{Next}
-use Rattle.state.specs.Ranges.{Held}
-use Rattle.state.specs.declared.Tally.{Tally}
+use Rattle.line.specs.Tally.{Held}
+use Rattle.line.specs.declared.tally.Tally.{Tally}
 use Rattle.run.specs.declared.place.Place.{Place}
-use Rattle.piece.specs.Piece.{tally_of, tally_with, step_with}
+use Rattle.line.specs.Tally.{tally_of, tally_with, step_with}
 
 -- From h, with t kept, the bytes of xs are accepted one by one up to ys: there the state is h', and t' is kept.
 pub data Passes : Hot → Tally → List ℕ → Hot → Tally → List ℕ → Type 0 where

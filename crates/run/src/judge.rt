@@ -3,8 +3,9 @@ ghost use Rattle.std.specs.Prelude.{[], ◌≡◌, ◌+◌};
 ghost use Rattle.layout.specs.Packed.{silent_column};
 ghost use Rattle.rules.specs.Rules.{byte_limit};
 ghost use Rattle.line.specs.Machine.{Below, HotFit, Tables};
-ghost use Rattle.piece.specs.Piece.{tally_of, step_with, kept_after, run_of};
-ghost use Rattle.state.specs.Ranges.{Held};
+ghost use Rattle.line.specs.Tally.{tally_of, step_with, kept_after};
+ghost use Rattle.state.specs.Piece.{run_of};
+ghost use Rattle.line.specs.Tally.{Held};
 
 use crate::lines::lines_from;
 use layout::blocks::BLOCKS;
@@ -14,8 +15,8 @@ use layout::rows::{ENTRIES, ROWS};
 use line::hot::Hot;
 use line::periods::PAIRS;
 use line::step::{Step, judge};
-use piece::notes::{noted, stated_with, totalled};
-use piece::outcome::{ended_by, opened};
+use line::notes::{noted, stated_with, totalled};
+use state::outcome::{ended_by, opened};
 use state::answers::Checked;
 use state::{State, Tally};
 

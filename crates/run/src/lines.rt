@@ -7,8 +7,8 @@ ghost use Rattle.rules.specs.Bytes.{bar};
 ghost use Rattle.rules.specs.Rules.{byte_limit};
 ghost use Rattle.whole.specs.Whole.{longest, margin};
 ghost use Rattle.line.specs.Machine.{Tables};
-ghost use Rattle.state.specs.Ranges.{Held};
-ghost use Rattle.piece.specs.Piece.{tally_of};
+ghost use Rattle.line.specs.Tally.{Held};
+ghost use Rattle.line.specs.Tally.{tally_of};
 ghost use Rattle.run.specs.Places.{hot_at, Placed, code_at, Follows, Headed, Fielded, EndsHere, next_line, safe_of, Along};
 ghost use Rattle.run.specs.Places.{Onward};
 
@@ -21,7 +21,7 @@ use layout::silent::silent_at;
 use line::hot::Hot;
 use line::order::{hangs, has_room, misplaced};
 use line::step::{BAR, CR, LF};
-use piece::notes::{counted, raise};
+use line::notes::{counted, raise};
 use rules::BYTE_LIMIT;
 use whole::kind::{MARGIN, field_past};
 

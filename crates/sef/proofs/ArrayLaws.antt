@@ -27,8 +27,8 @@ use Rattle.rules.proofs.SoundLaws.{sound, lf_past}
 use Rattle.layout.proofs.PeriodLaws.{has_period}
 use Rattle.line.specs.Machine.{entry_of, number_unit, all_hold_of, asked_of}
 use Rattle.field.specs.Streaming.{cap}
-use Rattle.piece.specs.Piece.{set_of, counts_with, stamps_with, occurrences_with, raised_of, totals_with, stated_of, stated_with}
-use Rattle.piece.specs.Piece.{paired_of, pairs_with}
+use Rattle.line.specs.Tally.{set_of, counts_with, stamps_with, occurrences_with, raised_of, totals_with, stated_of, stated_with}
+use Rattle.line.specs.Tally.{paired_of, pairs_with}
 use Rattle.line.proofs.HotOf.{hot_of, says, says_stated, says_pair}
 use Rattle.line.proofs.PairLaws.{pair_of, pairs_of, entry_count}
 use Rattle.line.proofs.FieldSim.{holds, Answers}

@@ -6,7 +6,7 @@ use Prim.Native.Nat.{ℕ}
 use lib.Dec.{eqb}
 use borrow.Author.Tests.{eq-eqb, ne_eqb}
 use Rattle.layout.specs.Pick.{pick}
-use Rattle.piece.specs.Piece.{run_of, kept_of}
+use Rattle.state.specs.Piece.{run_of, kept_of}
 use Rattle.sef.specs.Calls.{unchanged, check_of, final_answer_of, closed_of, finally_unchanged, finish_of}
 use Rattle.state.specs.Ranges.{ranged_of}
 use Rattle.state.specs.declared.State.{State}

@@ -11,11 +11,11 @@ use Rattle.layout.specs.Rows.{row_count}
 use Rattle.rules.specs.Verdict.{counts_of}
 use Rattle.rules.proofs.TestLaws.{both}
 use Rattle.state.specs.Answers.{numbers, finally_said, report_said}
-use Rattle.piece.specs.Piece.{run_of, kept_of}
+use Rattle.state.specs.Piece.{run_of, kept_of}
 use Rattle.sef.specs.Calls.{check_of, unchanged, final_answer_of, closed_of, finally_unchanged, finish_of}
 use Rattle.sef.specs.Calls.{report_of, reported_of}
 use Rattle.state.specs.Ranges.{ranged_of}
-use Rattle.piece.specs.Piece.{AllBytes}
+use Rattle.state.specs.Piece.{AllBytes}
 use Rattle.sef.specs.Promises.{more, done, Checks, Finishes, Reports}
 use Rattle.state.specs.declared.State.{State}
 use Rattle.state.specs.declared.answers.Numbers.{Numbers}

@@ -10,10 +10,10 @@ use borrow.Author.Tests.{eqb-false}
 use Rattle.layout.specs.Pick.{pick}
 use Rattle.layout.specs.Rows.{row_count, row9999}
 use Rattle.state.specs.Answers.{numbers}
-use Rattle.piece.specs.Piece.{kept_of}
+use Rattle.state.specs.Piece.{kept_of}
 use Rattle.sef.specs.Calls.{unchanged, check_of, final_answer_of, finally_unchanged, finish_of, report_of, reported_of}
 use Rattle.state.specs.Ranges.{ranged_of}
-use Rattle.piece.specs.Piece.{AllBytes}
+use Rattle.state.specs.Piece.{AllBytes}
 use Rattle.sef.specs.Promises.{Reports}
 use Rattle.state.specs.declared.State.{State}
 use Rattle.state.specs.declared.answers.Checked.{Checked}

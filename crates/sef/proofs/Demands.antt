@@ -24,7 +24,7 @@ use Rattle.rules.proofs.TotalLaws.{accepted_last, accepted_sum, accepted_total, 
 use Rattle.rules.proofs.TotalLaws.{accepted_there, accepted_has_0_and_9, accepted_statement, accepted_once, accepted_pairs}
 use Rattle.line.specs.Machine.{position_of}
 use Rattle.state.specs.Answers.{numbers, numbers_of, said, finally_said, report_said}
-use Rattle.piece.specs.Piece.{open_of, stopped_of, run_of, kept_of}
+use Rattle.state.specs.Piece.{open_of, stopped_of, run_of, kept_of}
 use Rattle.sef.specs.Calls.{unchanged, check_of, final_answer_of, finish_of, report_of}
 use Rattle.state.specs.Ranges.{position_ranged, ranged_of}
 use Rattle.sef.specs.Promises.{Reached, start, more, Given, Finishes, Reports}
@@ -41,8 +41,8 @@ use Rattle.state.specs.declared.answers.FinalAnswer.TheVariants as Final
 use Rattle.state.specs.declared.answers.ReportAnswer.{ReportAnswer}
 use Rattle.state.specs.declared.answers.ReportAnswer.TheVariants as Report
 use Rattle.state.proofs.RangeLaws.{kept_refusal, no_field_lem, no_position_lem, OfRule, of_rule, not_of_call, rule_some}
-use Rattle.piece.proofs.StepRanges.{position_ranged_lem}
-use Rattle.piece.proofs.RunLaws.{Comes, opens, stops_by}
+use Rattle.state.proofs.StepRanges.{position_ranged_lem}
+use Rattle.state.proofs.RunLaws.{Comes, opens, stops_by}
 use Rattle.sef.proofs.InRangeLaws.{stopped_ranged, Pieces, late, kept, run, check_pieces, Finishing, closes}
 use Rattle.sef.proofs.InRangeLaws.{finish_finishing}
 use Rattle.sef.proofs.Joined.{reached_state, reached_ranged, reached_open, given_ranged}

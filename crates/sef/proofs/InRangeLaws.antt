@@ -12,22 +12,23 @@ use Rattle.layout.specs.Text.{bytes, code_number, text_number}
 use Rattle.layout.specs.Rows.{row_table, listed, code, block, place_of, block_letters}
 use Rattle.rules.specs.Totals.{sum, sum_of_block}
 use Rattle.line.specs.Machine.{most_bars, position_of}
-use Rattle.piece.specs.Piece.{state_of, open_of, stopped_of, judged_one, run_of, kept_of}
+use Rattle.state.specs.Piece.{state_of, open_of, stopped_of, judged_one, run_of, kept_of}
 use Rattle.sef.specs.Calls.{fresh, unchanged, check_of, final_answer_of}
 use Rattle.sef.specs.Calls.{closed_of, finally_unchanged, finish_of}
-use Rattle.state.specs.Ranges.{line_ranged, hot_ranged, is_rule, refusal_ranged, tally_ranged, ranged_of, Held}
-use Rattle.state.specs.Ranges.{TallyFit}
-use Rattle.piece.specs.Piece.{AllBytes}
+use Rattle.state.specs.Ranges.{line_ranged, hot_ranged, is_rule, refusal_ranged, tally_ranged, ranged_of}
+use Rattle.line.specs.Tally.{Held}
+use Rattle.line.specs.Tally.{TallyFit}
+use Rattle.state.specs.Piece.{AllBytes}
 use Rattle.line.specs.declared.hot.Hot.{Hot}
 use Rattle.state.specs.declared.State.{State}
-use Rattle.state.specs.declared.Tally.{Tally}
+use Rattle.line.specs.declared.tally.Tally.{Tally}
 use Rattle.state.specs.declared.answers.Checked.{Checked}
 use Rattle.state.specs.declared.answers.Finished.{Finished}
 use Rattle.state.specs.declared.answers.Answer.TheVariants as Piece
 use Rattle.state.specs.declared.answers.FinalAnswer.TheVariants as Final
 use Rattle.state.proofs.RangeLaws.{open_ranged, broken_ranged, held_of, ranged_by}
-use Rattle.piece.proofs.StepRanges.{judged_fit, position_ranged_lem}
-use Rattle.piece.proofs.RunLaws.{Comes, opens, stops_by, run_comes}
+use Rattle.state.proofs.StepRanges.{judged_fit, position_ranged_lem}
+use Rattle.state.proofs.RunLaws.{Comes, opens, stops_by, run_comes}
 
 pub fresh_ranged : ranged_of fresh ≡ true
 unfolding ranged_of hot_ranged line_ranged refusal_ranged tally_ranged all_below sum sum_of_block block place_of block_letters code listed

@@ -11,7 +11,7 @@ use Rattle.rules.specs.Verdict.{standing, totals, totals_of}
 use Rattle.rules.proofs.TestLaws.{both}
 use Rattle.rules.proofs.CountLaws.{totals_at}
 use Rattle.state.specs.Answers.{numbers_of, said, finally_said, report_said}
-use Rattle.piece.specs.Piece.{open_of, stopped_of, kept_of}
+use Rattle.state.specs.Piece.{open_of, stopped_of, kept_of}
 use Rattle.sef.specs.Calls.{check_of, final_answer_of, finish_of}
 use Rattle.state.specs.Ranges.{ranged_of}
 use Rattle.sef.specs.Promises as P
@@ -21,7 +21,7 @@ use Rattle.state.specs.declared.answers.Finished.{Finished}
 use Rattle.state.specs.declared.answers.FinalAnswer.{FinalAnswer}
 use Rattle.state.specs.declared.answers.ReportAnswer.{ReportAnswer}
 use Rattle.state.proofs.RangeLaws.{state_tally}
-use Rattle.piece.proofs.RunLaws.{Comes, opens, stops_by}
+use Rattle.state.proofs.RunLaws.{Comes, opens, stops_by}
 use Rattle.sef.proofs.InRangeLaws.{Pieces, late, kept, run, check_pieces, Finishing, closes, finish_finishing}
 use Rattle.sef.proofs.CallViews.{AnyReport, damaged, no_room, writes, report_any, Finals, accepts, short, keeps, finals}
 use Rattle.sef.proofs.Joined.{given_totals}

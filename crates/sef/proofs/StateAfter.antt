@@ -22,10 +22,11 @@ use Rattle.rules.proofs.CleanLaws.{Clean, Refused, clean_next, verdict_broken, v
 use Rattle.rules.proofs.CleanLaws.{clean_or_refused, finish_clean, finish_refused}
 use Rattle.line.specs.Machine.{position_of}
 use Rattle.state.specs.Answers.{numbers_of, said, finally_said}
-use Rattle.piece.specs.Piece.{tally_of, open_of, stopped_of, run_of, kept_of}
+use Rattle.line.specs.Tally.{tally_of}
+use Rattle.state.specs.Piece.{open_of, stopped_of, run_of, kept_of}
 use Rattle.sef.specs.Calls.{check_of, final_answer_of, finish_of}
 use Rattle.state.specs.Ranges.{ranged_of}
-use Rattle.state.specs.declared.Tally.{Tally}
+use Rattle.line.specs.declared.tally.Tally.{Tally}
 use Rattle.state.specs.declared.answers.Checked.{Checked}
 use Rattle.line.proofs.HotOf.{hot_of}
 use Rattle.line.proofs.Sim.{step_is}

@@ -5,7 +5,8 @@ use Rattle.layout.specs.Rows.{row_count, none, row9999, blocks}
 use Rattle.field.specs.Streaming.{empty_field}
 use Rattle.line.specs.Machine.{code_kind, code_only, pair_count}
 use Rattle.state.specs.Answers.{numbers}
-use Rattle.piece.specs.Piece.{tally_of, state_of, kept_of, run_of}
+use Rattle.line.specs.Tally.{tally_of}
+use Rattle.state.specs.Piece.{state_of, kept_of, run_of}
 use Rattle.state.specs.Ranges.{ranged_of}
 use Rattle.state.specs.declared.State.{State}
 use Rattle.state.specs.declared.answers.Checked.{Checked}

@@ -17,7 +17,7 @@ use Rattle.line.specs.Machine.{most_bars}
 use Rattle.state.specs.Answers.{numbers, numbers_of, said, finally_said, report_said}
 use Rattle.sef.specs.Calls.{fresh, check_of}
 use Rattle.state.specs.Ranges.{is_rule, position_ranged, ranged_of}
-use Rattle.piece.specs.Piece.{AllBytes}
+use Rattle.state.specs.Piece.{AllBytes}
 use Rattle.sef.specs.Promises.{Reached, Given, Checks, Finishes, Reports}
 use Rattle.state.specs.declared.State.{State}
 use Rattle.state.specs.declared.answers.Numbers.{Numbers}

@@ -10,7 +10,7 @@ use layout::rows::{ENTRIES, ROWS};
 use line::hot::{CODE_KIND, CODE_ONLY, Hot};
 use line::order::ROW_9999;
 use line::periods::PAIRS;
-use piece::outcome::kept;
+use state::outcome::kept;
 use run::judge::run;
 use state::answers::{Answer, Checked, FinalAnswer, Finished, Numbers, ReportAnswer};
 use state::ranges::ranged;

@@ -1,3 +1,5 @@
 pub mod RangeLaws
 pub mod SumLaws
 pub mod PartLaws
+pub mod StepRanges
+pub mod RunLaws

@@ -16,10 +16,11 @@ use Rattle.rules.proofs.TestLaws.{both, split, and_left, and_right, and-false}
 use Rattle.field.specs.Streaming.{cap}
 use Rattle.line.specs.Machine.{HotFit, most_bars, untrue, most_says}
 use Rattle.state.specs.Ranges.{within_to, totals_to, line_ranged, hot_ranged, is_rule, position_ranged, refusal_ranged}
-use Rattle.state.specs.Ranges.{tally_ranged, ranged_of, TallyFit, Held}
+use Rattle.state.specs.Ranges.{tally_ranged, ranged_of}
+use Rattle.line.specs.Tally.{TallyFit, Held}
 use Rattle.line.specs.declared.hot.Hot.{Hot}
 use Rattle.state.specs.declared.State.{State}
-use Rattle.state.specs.declared.Tally.{Tally}
+use Rattle.line.specs.declared.tally.Tally.{Tally}
 
 -- at each entry of an array
 module _ (m : ℕ) (xs : List ℕ) (n : ℕ) where

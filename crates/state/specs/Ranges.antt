@@ -10,7 +10,7 @@ use Rattle.field.specs.Streaming.{cap}
 use Rattle.line.specs.Machine.{Below, HotFit, most_bars, untrue, most_says}
 use Rattle.line.specs.declared.hot.Hot.{Hot}
 use Rattle.state.specs.declared.State.{State}
-use Rattle.state.specs.declared.Tally.{Tally}
+use Rattle.line.specs.declared.tally.Tally.{Tally}
 
 -- the first n entries are at most m
 abbrev pub within_to : ℕ → List ℕ → ℕ → Bool
@@ -62,18 +62,3 @@ unfoldable pub ranged_of : State → Bool
 ranged_of s =
     hot_ranged s.hot && refusal_ranged s.rule s.field s.position s.hot.bytes
     && tally_ranged s.tally s.hot.lines s.hot.bytes
-
--- what the loop over a piece keeps
-pub record TallyFit (t : Tally) (lines bytes : ℕ) : Type 0 where
-  pub each_row : length t.counts ≡ row_count
-  pub each_block : length t.totals ≡ blocks
-  pub stamps : Below bytes t.stamps
-  pub occurrences : Below bytes t.occurrences
-  pub stated : (k : ℕ) → k < suc row_count → get_or t.stated k 0 ≤ untrue
-  pub totals : (x : ℕ) → x < blocks → block_count x t.counts ≡ get_or t.totals x 0
-  pub add_up : sum t.totals ≡ lines
-
-pub record Held (h : Hot) (t : Tally) : Type 0 where
-  pub fit : HotFit h
-  pub within_limit : h.bytes ≤ byte_limit
-  pub tally : TallyFit t h.lines h.bytes

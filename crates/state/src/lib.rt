@@ -2,25 +2,12 @@
 #![tactic(auto)]
 
 pub mod answers;
+pub mod outcome;
 pub mod ranges;
 
-use layout::blocks::BLOCKS;
-use layout::rows::{ENTRIES, ROWS};
-use line::hot::Hot;
-use line::periods::PAIRS;
+pub use line::tally::Tally;
 
-// For each row: its lines ended, the number of its last line, and how many stood under one parent line then. For each block, in the
-// order of blocks: its lines ended. For each row, and for no row: 0, or one more than what 9900 lines state of it. For each row that
-// has a period: the pairs of dates of its lines, in their order.
-#[derive(Clone, Copy)]
-pub struct Tally {
-    pub counts: [u64; ROWS],
-    pub stamps: [u64; ROWS],
-    pub occurrences: [u64; ROWS],
-    pub totals: [u64; BLOCKS],
-    pub stated: [u64; ENTRIES],
-    pub pairs: [u64; PAIRS],
-}
+use line::hot::Hot;
 
 #[derive(Clone, Copy)]
 pub struct State {

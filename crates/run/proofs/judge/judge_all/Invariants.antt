@@ -1,6 +1,6 @@
 use Prim.Native.Nat.{◌-◌}
 use lib.ListN.{length}
-use Rattle.piece.specs.Piece.{tally_of}
+use Rattle.line.specs.Tally.{tally_of}
 use Rattle.run.proofs.LoopLaws.{Going}
 use Rattle.run.proofs.judge.judge_all.Given as goal
 

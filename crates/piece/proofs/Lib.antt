@@ -1,4 +1,0 @@
-pub mod StepRanges
-pub mod StepLines
-pub mod TallyRanges
-pub mod RunLaws
