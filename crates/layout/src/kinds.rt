@@ -1,7 +1,7 @@
-// The kind of each field, one number a field, row after row; and where each row's kinds start.
-ghost use Rattle.std.specs.Prelude.{◌<◌, ◌≤◌, ◌≡◌};
-ghost use Rattle.layout.specs.Packed.{kind_number, packed_kinds, start_column};
-ghost use Rattle.layout.specs.Kinds.{kind};
+// The kind of each field, row after row; and where each row's kinds start.
+ghost use Rattle.std.specs.Prelude.{◌<◌, ◌≤◌, ◌≡◌, get_or};
+ghost use Rattle.layout.specs.Kinds.{field_count, kind, row_start};
+ghost use Rattle.layout.specs.Packed.{size_unit, class_number, number_of, kind_number, packed_kinds, most_kind};
 ghost use Rattle.layout.specs.Rows.{row_count, fields};
 
 use super::rows::ENTRIES;
@@ -9,157 +9,209 @@ use super::rows::ENTRIES;
 // The number of fields of all rows.
 pub const FIELDS: usize = 1238;
 
-// A kind's number is its class plus SIZE_UNIT times its size; where nothing is asked of the size, that is 0.
-pub const SIZE_UNIT: u32 = 16;
+// A kind's number is its class plus SIZE_UNIT times its size.
+const SIZE_UNIT: u64 = 16;
 
-// The largest size: that of TXT, field 3 of 0450.
-const SIZE_MOST: u64 = 65536;
-
-// A class is below SIZE_UNIT.
-pub const KIND_MOST: u64 = SIZE_UNIT as u64 * (SIZE_MOST + 1) - 1;
-
-// No field: it stands past a row's last one.
-pub const NO_FIELD: u32 = 0;
-
-// The classes. `field` relies on their order: codes stand before texts, and plain numbers before the others of numbers. Field 1 of
-// every line.
-pub const CLASS_CODE: u32 = 1;
-
-// The code that a 9900 line speaks of.
-pub const CLASS_LINE_CODE: u32 = 2;
-
-// C: at most so many bytes.
-pub const CLASS_C: u32 = 3;
-
-// N: digits, exactly so many; and N without a size.
-pub const CLASS_N: u32 = 4;
-
-pub const CLASS_N_ANY: u32 = 5;
-
-// N with decimals: its size is their number.
-pub const CLASS_DECIMALS: u32 = 6;
-
-// A date ddmmyyyy.
-pub const CLASS_DATE: u32 = 7;
-
-// The fixed texts.
-pub const CLASS_LFPD: u32 = 8;
-
-pub const CLASS_BRASIL: u32 = 9;
-
-// Field 2 of an opening.
-pub const CLASS_OPENS: u32 = 10;
-
-// Field 2 of a closing and of 9999.
-pub const CLASS_COUNT: u32 = 11;
-
-// Digits with check digits: a CNPJ, a CPF.
-pub const CLASS_CNPJ: u32 = 12;
-
-pub const CLASS_CPF: u32 = 13;
-
-// The kinds of the table below.
-const CODE: u32 = CLASS_CODE;
-
-const LINE_CODE: u32 = CLASS_LINE_CODE + SIZE_UNIT * 4;
-
-const C0: u32 = CLASS_C + SIZE_UNIT * 0;
-
-const C1: u32 = CLASS_C + SIZE_UNIT * 1;
-
-const C2: u32 = CLASS_C + SIZE_UNIT * 2;
-
-const C4: u32 = CLASS_C + SIZE_UNIT * 4;
-
-const C5: u32 = CLASS_C + SIZE_UNIT * 5;
-
-const C6: u32 = CLASS_C + SIZE_UNIT * 6;
-
-const C9: u32 = CLASS_C + SIZE_UNIT * 9;
-
-const C10: u32 = CLASS_C + SIZE_UNIT * 10;
-
-const C14: u32 = CLASS_C + SIZE_UNIT * 14;
-
-const C20: u32 = CLASS_C + SIZE_UNIT * 20;
-
-const C45: u32 = CLASS_C + SIZE_UNIT * 45;
-
-const C128: u32 = CLASS_C + SIZE_UNIT * 128;
-
-const C255: u32 = CLASS_C + SIZE_UNIT * 255;
-
-const C65536: u32 = CLASS_C + SIZE_UNIT * 65536;
-
-const N1: u32 = CLASS_N + SIZE_UNIT * 1;
-
-const N2: u32 = CLASS_N + SIZE_UNIT * 2;
-
-const N3: u32 = CLASS_N + SIZE_UNIT * 3;
-
-const N4: u32 = CLASS_N + SIZE_UNIT * 4;
-
-const N5: u32 = CLASS_N + SIZE_UNIT * 5;
-
-const N6: u32 = CLASS_N + SIZE_UNIT * 6;
-
-const N7: u32 = CLASS_N + SIZE_UNIT * 7;
-
-const N8: u32 = CLASS_N + SIZE_UNIT * 8;
-
-const N10: u32 = CLASS_N + SIZE_UNIT * 10;
-
-const N11: u32 = CLASS_N + SIZE_UNIT * 11;
-
-const N14: u32 = CLASS_N + SIZE_UNIT * 14;
-
-const N_ANY: u32 = CLASS_N_ANY;
-
-const DECIMALS_2: u32 = CLASS_DECIMALS + SIZE_UNIT * 2;
-
-const DECIMALS_3: u32 = CLASS_DECIMALS + SIZE_UNIT * 3;
-
-const DECIMALS_4: u32 = CLASS_DECIMALS + SIZE_UNIT * 4;
-
-const DECIMALS_6: u32 = CLASS_DECIMALS + SIZE_UNIT * 6;
-
-const DATE: u32 = CLASS_DATE + SIZE_UNIT * 8;
-
-const CNPJ: u32 = CLASS_CNPJ + SIZE_UNIT * 14;
-
-const CPF: u32 = CLASS_CPF + SIZE_UNIT * 11;
-
-const LFPD: u32 = CLASS_LFPD + SIZE_UNIT * 4;
-
-const BRASIL: u32 = CLASS_BRASIL + SIZE_UNIT * 6;
-
-const OPENS: u32 = CLASS_OPENS + SIZE_UNIT * 1;
-
-const COUNT: u32 = CLASS_COUNT;
-
-// The whole table. It is mentioned here alone: a caller reads it once and hands it on.
-pub fn table() -> [u32; FIELDS]
-    ensures { result ≡ packed_kinds }
-{
-    TABLE
+// What a field may hold, by number in this order.
+#[derive(Clone, Copy, PartialEq, Eq)]
+pub enum Class {
+    // past a row's last field
+    NoField,
+    // field 1 of every line
+    Code,
+    // the code that a 9900 line speaks of
+    LineCode,
+    // C: at most so many bytes
+    Text,
+    // N: exactly so many digits
+    Digits,
+    // N without a size
+    Number,
+    // N with so many decimals
+    Decimals,
+    // ddmmyyyy
+    Date,
+    // the fixed texts
+    Lfpd,
+    Brasil,
+    // field 2 of an opening: one digit
+    Opens,
+    // field 2 of a closing and of 9999
+    Count,
+    // digits with check digits
+    Cnpj,
+    Cpf,
+    // no field's class: a number may name them
+    Unused14,
+    Unused15,
 }
 
-// Where each row's kinds start in the table.
-pub fn starts() -> [usize; ENTRIES]
-    ensures { result ≡ start_column }
+// A class, and the size that it asks for; 0 where it asks for none.
+#[derive(Clone, Copy, PartialEq, Eq)]
+pub struct Kind {
+    pub class: Class,
+    pub size: u32,
+}
+
+impl Kind {
+    pub fn number(self) -> u64
+        ensures { result ≡ number_of self }
+    {
+        self.class as u64 + SIZE_UNIT * self.size as u64
+    }
+
+    // The kind that has this number.
+    #[tactic(auto, unfolding(crate::specs::Packed::number_of))]
+    pub fn from_number(number: u64) -> Kind
+        requires { number ≤ most_kind }
+        ensures { number_of result ≡ number }
+    {
+        Kind {
+            class: class_of(number % SIZE_UNIT),
+            size: (number / SIZE_UNIT) as u32,
+        }
+    }
+}
+
+// The class that has this number.
+fn class_of(number: u64) -> Class
+    requires { number < size_unit }
+    ensures { class_number result ≡ number }
 {
-    STARTS
+    match number {
+        0 => Class::NoField,
+        1 => Class::Code,
+        2 => Class::LineCode,
+        3 => Class::Text,
+        4 => Class::Digits,
+        5 => Class::Number,
+        6 => Class::Decimals,
+        7 => Class::Date,
+        8 => Class::Lfpd,
+        9 => Class::Brasil,
+        10 => Class::Opens,
+        11 => Class::Count,
+        12 => Class::Cnpj,
+        13 => Class::Cpf,
+        14 => Class::Unused14,
+        _ => Class::Unused15,
+    }
+}
+
+// A kind in one line.
+macro_rules! kind {
+    ($class:ident, $size:literal) => {
+        Kind {
+            class: Class::$class,
+            size: $size,
+        }
+    };
+}
+
+// The kinds of the table below.
+const CODE: Kind = kind!(Code, 0);
+
+const LINE_CODE: Kind = kind!(LineCode, 4);
+
+const C0: Kind = kind!(Text, 0);
+
+const C1: Kind = kind!(Text, 1);
+
+const C2: Kind = kind!(Text, 2);
+
+const C4: Kind = kind!(Text, 4);
+
+const C5: Kind = kind!(Text, 5);
+
+const C6: Kind = kind!(Text, 6);
+
+const C9: Kind = kind!(Text, 9);
+
+const C10: Kind = kind!(Text, 10);
+
+const C14: Kind = kind!(Text, 14);
+
+const C20: Kind = kind!(Text, 20);
+
+const C45: Kind = kind!(Text, 45);
+
+const C128: Kind = kind!(Text, 128);
+
+const C255: Kind = kind!(Text, 255);
+
+const C65536: Kind = kind!(Text, 65536);
+
+const N1: Kind = kind!(Digits, 1);
+
+const N2: Kind = kind!(Digits, 2);
+
+const N3: Kind = kind!(Digits, 3);
+
+const N4: Kind = kind!(Digits, 4);
+
+const N5: Kind = kind!(Digits, 5);
+
+const N6: Kind = kind!(Digits, 6);
+
+const N7: Kind = kind!(Digits, 7);
+
+const N8: Kind = kind!(Digits, 8);
+
+const N10: Kind = kind!(Digits, 10);
+
+const N11: Kind = kind!(Digits, 11);
+
+const N14: Kind = kind!(Digits, 14);
+
+const N_ANY: Kind = kind!(Number, 0);
+
+const DECIMALS_2: Kind = kind!(Decimals, 2);
+
+const DECIMALS_3: Kind = kind!(Decimals, 3);
+
+const DECIMALS_4: Kind = kind!(Decimals, 4);
+
+const DECIMALS_6: Kind = kind!(Decimals, 6);
+
+const DATE: Kind = kind!(Date, 8);
+
+const CNPJ: Kind = kind!(Cnpj, 14);
+
+const CPF: Kind = kind!(Cpf, 11);
+
+const LFPD: Kind = kind!(Lfpd, 4);
+
+const BRASIL: Kind = kind!(Brasil, 6);
+
+const OPENS: Kind = kind!(Opens, 1);
+
+const COUNT: Kind = kind!(Count, 0);
+
+// Where the kinds of row r start in the table.
+pub fn start_at(r: usize) -> usize
+    requires { r ≤ row_count }
+    ensures { result ≡ row_start r }
+{
+    STARTS[r]
+}
+
+// The kind at this place of the table. Behind a row's kinds stand those of the next row.
+pub fn kind_in_table(index: usize) -> Kind
+    requires { index < field_count }
+    ensures { number_of result ≡ get_or packed_kinds index 0 }
+{
+    TABLE[index]
 }
 
 // The kind of field n of row r. A row's fields are numbered from 1.
-pub fn kind_at(kinds: &[u32; FIELDS], starts: &[usize; ENTRIES], r: usize, n: usize) -> u32
-    requires { (kinds.now ≡ packed_kinds) × (starts.now ≡ start_column) × (r < row_count) × (1 ≤ n) × (n ≤ fields r) }
-    ensures { result ≡ kind_number (kind r n) }
+pub fn kind_at(r: usize, n: usize) -> Kind
+    requires { (r < row_count) × (1 ≤ n) × (n ≤ fields r) }
+    ensures { number_of result ≡ kind_number (kind r n) }
 {
-    kinds[starts[r] + (n - 1)]
+    kind_in_table(start_at(r) + (n - 1))
 }
 
-const STARTS: [usize; ENTRIES] = [
+static STARTS: [usize; ENTRIES] = [
     0, // 0000
     20, // 0001
     22, // 0005
@@ -297,7 +349,7 @@ const STARTS: [usize; ENTRIES] = [
     FIELDS, // no row
 ];
 
-const TABLE: [u32; FIELDS] = [
+static TABLE: [Kind; FIELDS] = [
     // 0000
     CODE, LFPD, // LFPD
     DATE, // DT_INI
