@@ -3,6 +3,7 @@ pub mod StatementLaws
 pub mod DateLaws
 pub mod RowLaws
 pub mod KindLaws
+pub mod HotRanges
 pub mod HotOf
 pub mod PairLaws
 pub mod OrderSim

@@ -28,8 +28,7 @@ use Rattle.field.proofs.LengthLaws.{length_is, code_is}
 use Rattle.line.specs.Machine.{grown_of, word_row, found_of, code_bar_of, field_bar_of, bar_of}
 use Rattle.line.specs.Machine.{Asked, control_of, in_field_of, past_of, start_of, step_of}
 use Rattle.line.specs.declared.hot.Hot.{Hot}
-use Rattle.line.specs.declared.step.Step.{Step}
-use Rattle.line.specs.declared.step.Step.TheVariants.{Next, Broken}
+use Rattle.line.specs.Machine.{Step, Next, Broken}
 use Rattle.line.proofs.HotOf.{hot_of, hot_grown, hot_first, hot_coded, hot_moved, hot_ended}
 use Rattle.line.proofs.OrderSim.{stands_is, misplaced_is, room_is}
 use Rattle.line.proofs.FieldSim.{found_at, Answers, found_is, opening_told, field_fault_is}

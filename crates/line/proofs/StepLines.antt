@@ -12,8 +12,7 @@ use Rattle.rules.specs.Bytes.{LF, is_end_byte}
 use Rattle.rules.specs.Rules.{byte_limit}
 use Rattle.line.specs.Machine.{HotFit, Asked, code_bar_of, field_bar_of, bar_of, control_of, in_field_of, past_of, start_of, step_of}
 use Rattle.line.specs.declared.hot.Hot.{Hot}
-use Rattle.line.specs.declared.step.Step.{Step}
-use Rattle.line.specs.declared.step.Step.TheVariants.{Next, Broken}
+use Rattle.line.specs.Machine.{Step, Next, Broken}
 
 -- P holds of the state that a step goes on with
 data Onward (P : Hot → Type 0) : Step → Type 0 where

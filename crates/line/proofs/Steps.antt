@@ -2,7 +2,7 @@
 use mathlib.Core.Path.{◌≡◌, ap}
 use Rattle.field.proofs.Picks.{called}
 use Rattle.line.specs.declared.hot.Hot.{Hot}
-use Rattle.line.specs.declared.step.Step.TheVariants.{Next}
+use Rattle.line.specs.Machine.{Next}
 
 pub next : (a b : Hot) → a ≡ b → Next a ≡ Next b
 next a b e = ap Next e

@@ -1,5 +1,5 @@
 -- What the checker does with one byte, at every state, after the functions of the step.
-use Rattle.std.specs.Prelude.{Bool, not, ◌&&◌, ◌||◌, ◌≡◌, List, ℕ, suc, ◌+◌, ◌-◌, ◌*◌, ◌%◌, ◌≤◌, ◌<◌, min, eqb, leb, ltb, get_or}
+use Rattle.std.specs.Prelude.{Bool, not, ◌&&◌, ◌||◌, List, ℕ, suc, ◌+◌, ◌-◌, ◌*◌, ◌%◌, ◌≤◌, ◌<◌, min, eqb, leb, ltb, get_or}
 use Rattle.layout.specs.Pick.{pick}
 use Rattle.layout.specs.Lists.{all_below}
 use Rattle.layout.specs.Rows.{row_count, none, any_number, level, limit, fields, most_fields, block}
@@ -7,7 +7,7 @@ use Rattle.layout.specs.Rows.{parent, is_opening, is_closing, row0000, row9900, 
 use Rattle.layout.specs.Kind.{date, opens}
 use Rattle.layout.specs.Kinds.{kind}
 use Rattle.layout.specs.Periods.{period_count, period_of, later_date}
-use Rattle.layout.specs.Packed.{row_numbers, parent_column, packed_kinds, start_column, slot_table, code_class, kind_number, most_kind}
+use Rattle.layout.specs.Packed.{code_class, kind_number, most_kind}
 use Rattle.rules.specs.Bytes.{bar, CR, LF, is_end_byte}
 use Rattle.rules.specs.Order.{is_data}
 use Rattle.rules.specs.Periods.{most_pairs}
@@ -16,8 +16,11 @@ use Rattle.rules.specs.Rules.{byte_limit}
 use Rattle.field.specs.Streaming.{cap, empty_field, wrong_at, with_byte, fault_of}
 use Rattle.field.specs.declared.bytes.Field.{Field}
 use Rattle.line.specs.declared.hot.Hot.{Hot}
-use Rattle.line.specs.declared.step.Step.{Step}
-use Rattle.line.specs.declared.step.Step.TheVariants.{Next, Broken}
+
+-- what a byte comes to: the next state, or the broken rule with the field
+pub data Step : Type 0 where
+  Next : Hot → Step
+  Broken : ℕ → ℕ → Step
 
 -- the most bars of a line: one before each field, and the last one
 abbrev pub most_bars : ℕ
@@ -74,14 +77,6 @@ pub record HotFit (h : Hot) : Type 0 where
   pub length : h.field.length ≤ h.bytes
   pub wrong : h.field.wrong ≤ h.field.length
   pub value : h.field.value ≤ cap
-
--- the tables that are handed on
-pub record Tables (rs : List (List ℕ)) (ps ks ss cs : List ℕ) : Type 0 where
-  pub rows : rs ≡ row_numbers
-  pub parents : ps ≡ parent_column
-  pub kinds : ks ≡ packed_kinds
-  pub starts : ss ≡ start_column
-  pub slots : cs ≡ slot_table
 
 -- one more byte is judged, and of the field at hand this is kept
 abbrev pub judged_with : Hot → Field → Hot

@@ -9,8 +9,7 @@ use Rattle.rules.specs.Rules.{byte_limit}
 use Rattle.rules.specs.Totals.{sum, block_count}
 use Rattle.line.specs.Machine.{Below, HotFit, number_unit, entry_of, used_of, joined_of, pair_start, untrue, asked_of, step_of}
 use Rattle.line.specs.declared.hot.Hot.{Hot}
-use Rattle.line.specs.declared.step.Step.{Step}
-use Rattle.line.specs.declared.step.Step.TheVariants.{Next, Broken}
+use Rattle.line.specs.Machine.{Step, Next, Broken}
 use Rattle.line.specs.declared.tally.Tally.{Tally}
 
 -- What is kept for each row, after a byte that was accepted: LF ends the line at hand, the file's line n.

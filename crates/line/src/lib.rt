@@ -2,6 +2,7 @@
 #![tactic(auto)]
 
 pub mod hot;
+pub mod line;
 pub mod notes;
 pub mod order;
 pub mod periods;

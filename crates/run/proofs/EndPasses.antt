@@ -14,7 +14,7 @@ use Rattle.rules.specs.Rules.{byte_limit}
 use Rattle.field.proofs.LengthLaws.{one_longer}
 use Rattle.line.specs.Machine.{Asked, entry_of, used_of, grown_of, ended_of, since_of, past_of, step_of}
 use Rattle.line.specs.declared.hot.Hot.{Hot}
-use Rattle.line.specs.declared.step.Step.TheVariants.{Next}
+use Rattle.line.specs.Machine.{Next}
 use Rattle.line.specs.declared.tally.Tally.{Tally}
 use Rattle.run.specs.declared.place.Place.{Place}
 use Rattle.line.specs.Tally.{set_of, counts_with, stamps_with, occurrences_with, raised_of, totals_with, stated_with, paired_of, pairs_with}

@@ -26,7 +26,7 @@ use Rattle.line.specs.Machine.{in_field_of, step_of}
 use Rattle.line.proofs.HotOf.{pick_same}
 use Rattle.field.specs.declared.bytes.Field.{Field}
 use Rattle.line.specs.declared.hot.Hot.{Hot}
-use Rattle.line.specs.declared.step.Step.TheVariants.{Next}
+use Rattle.line.specs.Machine.{Next}
 use Rattle.line.specs.declared.tally.Tally.{Tally}
 use Rattle.run.specs.declared.place.Place.{Place}
 use Rattle.layout.specs.Silent.{is_silent}

@@ -26,7 +26,7 @@ use Rattle.field.specs.Streaming.{with_byte}
 use Rattle.whole.specs.Whole.{ends}
 use Rattle.line.specs.Machine.{code_kind, code_only, word_row, code_bar_of, bar_of, in_field_of, start_of, step_of}
 use Rattle.line.specs.declared.hot.Hot.{Hot}
-use Rattle.line.specs.declared.step.Step.TheVariants.{Next}
+use Rattle.line.specs.Machine.{Next}
 use Rattle.line.specs.declared.tally.Tally.{Tally}
 use Rattle.run.specs.declared.place.Place.{Place}
 use Rattle.line.specs.Tally.{step_with}

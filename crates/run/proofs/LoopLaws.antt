@@ -7,8 +7,7 @@ use native.Mathlib.Numerals.{add-one}
 use lib.ListN.{length, get_or, drop}
 use lib.Seq.{drop-cons, drop-length}
 use Rattle.line.specs.declared.hot.Hot.{Hot}
-use Rattle.line.specs.declared.step.Step.{Step}
-use Rattle.line.specs.declared.step.Step.TheVariants.{Next, Broken}
+use Rattle.line.specs.Machine.{Step, Next, Broken}
 use Rattle.line.specs.Tally.{Held}
 use Rattle.line.specs.declared.tally.Tally.{Tally}
 use Rattle.state.specs.declared.answers.Checked.{Checked}

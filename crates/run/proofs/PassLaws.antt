@@ -12,7 +12,7 @@ use Rattle.rules.specs.Bytes.{bar, LF}
 use Rattle.rules.proofs.TestLaws.{or_fails}
 use Rattle.whole.specs.Whole.{ends}
 use Rattle.line.specs.declared.hot.Hot.{Hot}
-use Rattle.line.specs.declared.step.Step.TheVariants.{Next}
+use Rattle.line.specs.Machine.{Next}
 use Rattle.line.specs.Tally.{Held}
 use Rattle.line.specs.declared.tally.Tally.{Tally}
 use Rattle.line.specs.Tally.{counts_with, stamps_with, occurrences_with, totals_with, stated_with, pairs_with, tally_with, step_with}

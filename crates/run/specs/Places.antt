@@ -11,7 +11,7 @@ use Rattle.field.specs.Streaming.{empty_field}
 use Rattle.whole.specs.Whole.{longest, margin}
 use Rattle.line.specs.Machine.{code_kind, code_only, stands_of, misplaced_of, room_of}
 use Rattle.line.specs.declared.hot.Hot.{Hot}
-use Rattle.line.specs.declared.step.Step.TheVariants.{Next}
+use Rattle.line.specs.Machine.{Next}
 use Rattle.line.specs.Tally.{Held}
 use Rattle.line.specs.declared.tally.Tally.{Tally}
 use Rattle.run.specs.declared.place.Place.{Place}

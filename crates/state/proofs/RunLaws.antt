@@ -12,8 +12,7 @@ use Rattle.state.specs.Ranges.{is_rule}
 use Rattle.line.specs.Tally.{Held}
 use Rattle.state.specs.Piece.{AllBytes}
 use Rattle.line.specs.declared.hot.Hot.{Hot}
-use Rattle.line.specs.declared.step.Step.{Step}
-use Rattle.line.specs.declared.step.Step.TheVariants.{Next, Broken}
+use Rattle.line.specs.Machine.{Step, Next, Broken}
 use Rattle.line.specs.declared.tally.Tally.{Tally}
 use Rattle.state.specs.declared.answers.Checked.{Checked}
 use Rattle.state.proofs.StepRanges.{Leads, goes, stops, step_leads}

@@ -23,8 +23,7 @@ use Rattle.line.specs.Machine.{date_unit, Asked, pair_rule_of, asked_rule_of, fo
 use Rattle.line.specs.Machine.{control_of, in_field_of, past_of, start_of, step_of, position_of}
 use Rattle.state.specs.Ranges.{is_rule, position_ranged}
 use Rattle.line.specs.declared.hot.Hot.{Hot}
-use Rattle.line.specs.declared.step.Step.{Step}
-use Rattle.line.specs.declared.step.Step.TheVariants.{Next, Broken}
+use Rattle.line.specs.Machine.{Step, Next, Broken}
 use Rattle.layout.proofs.KindLaws.{kind_most}
 use Rattle.layout.proofs.RowLaws.{fields_two, fields_most}
 use Rattle.field.proofs.LengthLaws.{one_longer, wrong_at_le, fit_after}
@@ -76,27 +75,6 @@ pick_leads : (h : Hot) (t : Bool) (a b : Step) → Leads h a → Leads h b → L
 pick_leads h true a b p q = p
 pick_leads h false a b p q = q
 
--- one more byte is judged
-pub judged_fit : (h : Hot) → HotFit h → h.bytes ≤ byte_limit
-    → (g : Field) → g.length ≤ h.bytes + 1 → g.wrong ≤ g.length → g.value ≤ cap → HotFit (judged_with h g)
-judged_fit h f limit g length wrong value =
-    record {
-      bytes = omega arith;
-      lines = omega (arith, f.lines);
-      last = f.last;
-      since = omega (arith, f.since);
-      says = f.says;
-      bars = f.bars;
-      row = f.row;
-      coded = f.coded;
-      some_field = f.some_field;
-      fields = f.fields;
-      kind = f.kind;
-      length = length;
-      wrong = wrong;
-      value = value;
-    }
-
 module _ (h : Hot) (f : HotFit h) (small : h.bytes < byte_limit) where
   -- at the field at hand, and at no field or field 1
   stops_here : (rule : ℕ) → is_rule rule ≡ true → Leads h (Broken rule h.bars)
@@ -111,73 +89,14 @@ module _ (h : Hot) (f : HotFit h) (small : h.bytes < byte_limit) where
       → 1 ≤ fields → fields ≤ most_fields → kind ≤ most_kind → says ≤ most_says → Leads h (Next (moved_of h r fields kind says))
   moved_leads room r fields kind says row coded some most small-kind said =
       goes {n = moved_of h r fields kind says}
-      (record {
-        bytes = omega arith;
-        lines = omega (arith, f.lines);
-        last = f.last;
-        since = omega (arith, f.since);
-        says = said;
-        bars = omega arith;
-        row = row;
-        coded = coded;
-        some_field = some;
-        fields = most;
-        kind = small-kind;
-        length = omega arith;
-        wrong = omega arith;
-        value = omega arith;
-      })
+      (moved_fit h f small room r fields kind says row coded some most small-kind said)
       refl small
 
   grown_leads : (b : ℕ) → b < 256 → Leads h (Next (grown_of h b))
-  grown_leads b byte =
-      let fit : FieldFit h.field = record { length = omega (arith, f.length); wrong = f.wrong; value = f.value } in
-      let next = fit_after {f = h.field} {b = b} fit byte (omega (arith, f.length)) h.kind f.kind in
-      let long = one_longer h.kind h.field b in
-      goes {n = grown_of h b} (judged_fit h f (omega arith) _ (omega (arith, f.length)) next.wrong next.value) refl small
-
-  since_le : since_of h ≤ h.bytes + 1
-  unfolding since_of
-  since_le = pick_le (is_closing h.row) 0 (h.since + 1) (h.bytes + 1) (omega arith) (omega (arith, f.since))
+  grown_leads b byte = goes {n = grown_of h b} (grown_fit h f small b byte) refl small
 
   ended_leads : Leads h (Next (ended_of h))
-  ended_leads =
-      goes {n = ended_of h}
-      (record {
-        bytes = omega arith;
-        lines = omega (arith, f.lines);
-        last = f.row;
-        since = since_le;
-        says = f.says;
-        bars = omega arith;
-        row = omega arith;
-        coded = λ two. absurd (omega arith);
-        some_field = omega arith;
-        fields = omega arith;
-        kind = omega arith;
-        length = omega arith;
-        wrong = omega arith;
-        value = omega arith;
-      })
-      refl small
-
-  states_le : states_of h ≤ most_says
-  unfolding states_of
-  states_le =
-      let row = mod-lt h.says {m = number_unit} (omega arith) in
-      pick_le (eqb h.bars 2) (word_row h) (h.says % number_unit + number_unit * number_of h.field) most_says
-      (omega (arith, word_row_le h)) (omega (arith, row, number_most h.field f.value))
-
-  dated_le : dated_of h ≤ most_says
-  unfolding dated_of dates_of
-  dated_le =
-      let first = mod-lt h.says {m = date_unit} (omega arith) in
-      let both : h.says % date_unit * date_unit + h.field.value ≤ most_says = omega (arith, f.value) in
-      pick_le (ltb (period_of h.row) period_count) _ h.says most_says both f.says
-
-  says_le : says_of h ≤ most_says
-  unfolding says_of
-  says_le = let le = f.says in search (pick_le, lit≤, states_le, dated_le) depth 8
+  ended_leads = goes {n = ended_of h} (ended_fit h f small) refl small
 
   -- in a field of the line
   module _ (room : h.bars ≤ most_fields) where
@@ -210,7 +129,7 @@ module _ (h : Hot) (f : HotFit h) (small : h.bytes < byte_limit) where
             (Broken n h.bars))
         go true e =
             moved_leads room h.row h.fields _ _ f.row (λ three. f.coded two) f.some_field f.fields
-            (kind_most h.row (h.bars + 1)) says_le
+            (kind_most h.row (h.bars + 1)) (says_le h f)
         go false e = stops {rule = n} {field = h.bars} (rw e at found) f.bars
 
     bar_leads : 1 ≤ h.bars → (ss os : List ℕ) (a : Asked) → Leads h (bar_of h ss os a)

@@ -1,0 +1,88 @@
+// The line at hand, as a step takes it: its numbers are in their ranges.
+ghost use Rattle.std.specs.Prelude.{◌≡◌, ◌+◌, ◌≤◌, ◌<◌};
+ghost use Rattle.layout.specs.Packed.{number_of, most_kind};
+ghost use Rattle.layout.specs.Rows.{row_count, most_fields};
+ghost use Rattle.rules.specs.Rules.{byte_limit};
+ghost use Rattle.line.specs.Machine.{HotFit, most_says, grown_of, moved_of, since_of, ended_of};
+
+use crate::hot::{CODE_KIND, CODE_ONLY, Hot};
+use layout::kinds::Kind;
+use layout::roles::is_closing;
+use layout::rows::ROWS;
+
+#[derive(Clone, Copy)]
+pub struct Line {
+    pub hot: Hot,
+    pub ghost fit: { HotFit hot },
+}
+
+impl Line {
+    pub fn of(hot: Hot) -> Line
+        requires { HotFit hot }
+        ensures { result.hot ≡ hot }
+    {
+        Line { hot }
+    }
+
+    // The kind of the field at hand.
+    pub fn kind(&self) -> Kind
+        ensures { number_of result ≡ self.now.hot.kind }
+    {
+        Kind::from_number(self.hot.kind)
+    }
+
+    // One more byte of the field at hand.
+    pub(crate) fn grow(&mut self, b: u8)
+        requires { self.old.hot.bytes < byte_limit }
+        ensures { self.new.hot ≡ grown_of self.old.hot b }
+    {
+        let kind = self.kind();
+        self.hot.bytes += 1;
+        self.hot.field.add_byte(kind, b);
+    }
+
+    // One more bar: a field of this kind begins, in a line of this row.
+    pub(crate) fn begin(&mut self, row: usize, fields: u64, kind: Kind, says: u64)
+        requires room { (self.old.hot.bytes < byte_limit) × (self.old.hot.bars ≤ most_fields) }
+        requires row { (row ≤ row_count) × (1 ≤ self.old.hot.bars → row < row_count) }
+        requires fields { (1 ≤ fields) × (fields ≤ most_fields) }
+        requires kind { number_of kind ≤ most_kind }
+        requires says { says ≤ most_says }
+        ensures { self.new.hot ≡ moved_of self.old.hot row fields (number_of kind) says }
+    {
+        self.hot.bytes += 1;
+        self.hot.says = says;
+        self.hot.bars += 1;
+        self.hot.row = row;
+        self.hot.fields = fields;
+        self.hot.kind = kind.number();
+        self.hot.field = field::bytes::start();
+    }
+
+    // The lines since the last closing, once the line at hand has ended.
+    #[tactic(auto, unfolding(crate::specs::Machine::since_of))]
+    fn since(&self) -> u64
+        ensures { result ≡ since_of self.now.hot }
+    {
+        if is_closing(self.hot.row) {
+            return 0;
+        }
+        self.hot.since + 1
+    }
+
+    // The line at hand ends.
+    pub(crate) fn end(&mut self)
+        requires { self.old.hot.bytes < byte_limit }
+        ensures { self.new.hot ≡ ended_of self.old.hot }
+    {
+        self.hot.since = self.since();
+        self.hot.lines += 1;
+        self.hot.bytes += 1;
+        self.hot.last = self.hot.row;
+        self.hot.bars = 0;
+        self.hot.row = ROWS;
+        self.hot.fields = CODE_ONLY;
+        self.hot.kind = CODE_KIND;
+        self.hot.field = field::bytes::start();
+    }
+}
