@@ -1,4 +1,5 @@
 pub mod Picks
+pub mod KindLaws
 pub mod LengthLaws
 pub mod WrongLaws
 pub mod DigitLaws

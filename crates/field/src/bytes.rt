@@ -1,38 +1,11 @@
 // What is kept of a field's bytes.
-ghost use Rattle.std.specs.Prelude.{◌≡◌, ◌-◌, ◌/◌, ◌≤◌};
-ghost use Rattle.layout.specs.Packed.{size_unit};
+ghost use Rattle.std.specs.Prelude.{◌≡◌, ◌<◌, ◌≤◌};
+ghost use Rattle.layout.specs.Packed.{number_of};
 ghost use Rattle.rules.specs.Fields.{is_digit};
-ghost use Rattle.field.specs.Streaming.{FieldFit, cap, empty_field, wrong_at, code_with, value_with, digit_with, matches};
-ghost use Rattle.field.specs.Streaming.{text_with, comma_fits, digit_fits, decimal_with, is_fixed_class, fixed_text, with_byte};
+ghost use Rattle.field.specs.Streaming.{FieldFit, cap, empty_field, longer, wrong_at, wrong_with, code_with, value_with, digit_with};
+ghost use Rattle.field.specs.Streaming.{matches, text_with, comma_fits, decimal_with, with_byte};
 
-// The classes of kinds: a kind's number is its class plus SIZE_UNIT times its size.
-pub const SIZE_UNIT: u64 = layout::kinds::SIZE_UNIT as u64;
-
-pub const CLASS_CODE: u64 = layout::kinds::CLASS_CODE as u64;
-
-pub const CLASS_LINE_CODE: u64 = layout::kinds::CLASS_LINE_CODE as u64;
-
-pub const CLASS_C: u64 = layout::kinds::CLASS_C as u64;
-
-pub const CLASS_N: u64 = layout::kinds::CLASS_N as u64;
-
-pub const CLASS_N_ANY: u64 = layout::kinds::CLASS_N_ANY as u64;
-
-pub const CLASS_DECIMALS: u64 = layout::kinds::CLASS_DECIMALS as u64;
-
-pub const CLASS_DATE: u64 = layout::kinds::CLASS_DATE as u64;
-
-pub const CLASS_LFPD: u64 = layout::kinds::CLASS_LFPD as u64;
-
-pub const CLASS_BRASIL: u64 = layout::kinds::CLASS_BRASIL as u64;
-
-pub const CLASS_OPENS: u64 = layout::kinds::CLASS_OPENS as u64;
-
-pub const CLASS_COUNT: u64 = layout::kinds::CLASS_COUNT as u64;
-
-pub const CLASS_CNPJ: u64 = layout::kinds::CLASS_CNPJ as u64;
-
-pub const CLASS_CPF: u64 = layout::kinds::CLASS_CPF as u64;
+use layout::kinds::{Class, Kind};
 
 const COMMA: u8 = 44;
 
@@ -43,7 +16,7 @@ pub const NONE_TO_COME: u64 = 1;
 pub const CAP: u64 = 100_000_000_000_000;
 
 // How many bytes, the position of the first wrong one, from 1, or 0, and the value, by the field's kind.
-#[derive(Clone, Copy)]
+#[derive(Clone, Copy, PartialEq, Eq)]
 pub struct Field {
     pub length: u64,
     pub wrong: u64,
@@ -61,193 +34,120 @@ pub fn start() -> Field
     }
 }
 
-// The position of the first wrong byte, if the next one is wrong or missing: its own, unless one was wrong before.
-pub fn wrong_at(f: Field) -> u64
-    requires { FieldFit f }
-    ensures { result ≡ wrong_at f }
-{
-    if f.wrong == 0 {
-        return f.length + 1;
-    }
-    f.wrong
-}
-
+#[tactic(auto, unfolding(rules::specs::Fields::is_digit))]
 fn is_digit(b: u8) -> bool
     ensures { result ≡ is_digit b }
 {
-    48 <= b && b <= 57
+    b.is_ascii_digit()
 }
 
 // One more digit; past the cap the value stays there, and never comes back below it.
+#[tactic(auto, unfolding(crate::specs::Streaming::value_with))]
 fn value_with(v: u64, b: u8) -> u64
     requires { v ≤ cap }
     ensures { result ≡ value_with v b }
 {
-    let mut d: u64 = 0;
-    if 48 <= b {
-        d = (b - 48) as u64;
-    }
-    let w = v * 10 + d;
-    if w < CAP { w } else { CAP }
-}
-
-fn code_with(f: Field, b: u8) -> Field
-    requires { FieldFit f }
-    ensures { result ≡ code_with f b }
-{
-    Field {
-        length: f.length + 1,
-        wrong: f.wrong,
-        value: f.value % 16777216 * 256 + b as u64,
-    }
-}
-
-fn digit_with(f: Field, b: u8) -> Field
-    requires { FieldFit f }
-    ensures { result ≡ digit_with f b }
-{
-    let value = value_with(f.value, b);
-    if is_digit(b) {
-        return Field {
-            length: f.length + 1,
-            wrong: f.wrong,
-            value,
-        };
-    }
-    Field {
-        length: f.length + 1,
-        wrong: wrong_at(f),
-        value,
-    }
+    let digit = b.saturating_sub(b'0') as u64;
+    (v * 10 + digit).min(CAP)
 }
 
 // Whether a fixed text has the byte at this place.
+#[tactic(auto, unfolding(crate::specs::Streaming::matches))]
 fn has_at(text: &[u8], at: u64, b: u8) -> bool
     ensures { result ≡ matches text.now at b }
 {
-    let i = at as usize;
-    if i < text.len() {
-        return text[i] == b;
-    }
-    false
+    text.get(at as usize) == Some(&b)
 }
 
-fn text_with(text: &[u8], f: Field, b: u8) -> Field
-    requires { FieldFit f }
-    ensures { result ≡ text_with text.now f b }
-{
-    if has_at(text, f.length, b) {
-        return Field {
-            length: f.length + 1,
-            wrong: f.wrong,
-            value: f.value,
-        };
+impl Field {
+    // The position of the first wrong byte, if the next one is wrong or missing: its own, unless one was wrong before.
+    #[tactic(auto, unfolding(crate::specs::Streaming::wrong_at))]
+    pub fn wrong_at(self) -> u64
+        requires { FieldFit self }
+        ensures { result ≡ wrong_at self }
+    {
+        match self.wrong {
+            0 => self.length + 1,
+            wrong => wrong,
+        }
     }
-    Field {
-        length: f.length + 1,
-        wrong: wrong_at(f),
-        value: f.value,
-    }
-}
 
-// The fixed texts: in a function of their own, so that they are stored where it starts, and not for every byte.
-fn fixed_with(class: u64, f: Field, b: u8) -> Field
-    requires { FieldFit f }
-    ensures { result ≡ text_with (fixed_text class) f b }
-{
-    if class == CLASS_LFPD {
-        return text_with(b"LFPD", f, b);
+    // One more byte, if it is right there.
+    fn add(&mut self, is_right: bool)
+        requires { FieldFit self.old }
+        ensures { self.new ≡ longer self.old (wrong_with is_right self.old) self.old.value }
+    {
+        if !is_right {
+            self.wrong = self.wrong_at();
+        }
+        self.length += 1;
     }
-    text_with(b"Brasil", f, b)
-}
 
-// A comma stands once, after one digit or more.
-fn comma_fits(f: Field, b: u8) -> bool
-    ensures { result ≡ comma_fits f b }
-{
-    if b != COMMA {
-        return false;
+    // A code's value is its last four bytes.
+    fn add_to_code(&mut self, b: u8)
+        requires { FieldFit self.old }
+        ensures { self.new ≡ code_with self.old b }
+    {
+        self.value = self.value % 16777216 * 256 + b as u64;
+        self.add(true);
     }
-    if f.value != 0 {
-        return false;
-    }
-    0 < f.length
-}
 
-// A digit stands unless all decimals have come.
-fn digit_fits(f: Field, b: u8) -> bool
-    ensures { result ≡ digit_fits f b }
-{
-    if is_digit(b) {
-        return f.value != NONE_TO_COME;
+    #[tactic(auto, unfolding(crate::specs::Streaming::value_with, crate::specs::Streaming::digit_with, crate::specs::Streaming::wrong_at))]
+    fn add_digit(&mut self, b: u8)
+        requires { FieldFit self.old }
+        ensures { self.new ≡ digit_with self.old b }
+    {
+        self.value = value_with(self.value, b);
+        self.add(is_digit(b));
     }
-    false
-}
 
-// One decimal fewer is to come; before the comma the value stays 0.
-fn one_less(v: u64) -> u64
-    ensures { result ≡ v - 1 }
-{
-    if v == 0 {
-        return 0;
+    #[tactic(auto, unfolding(crate::specs::Streaming::text_with))]
+    fn add_to_fixed(&mut self, text: &[u8], b: u8)
+        requires { FieldFit self.old }
+        ensures { self.new ≡ text_with text.now self.old b }
+    {
+        self.add(has_at(text, self.length, b));
     }
-    v - 1
-}
 
-fn decimal_with(kind: u64, f: Field, b: u8) -> Field
-    requires { FieldFit f }
-    ensures { result ≡ decimal_with (kind / size_unit) f b }
-{
-    let length = f.length + 1;
-    if digit_fits(f, b) {
-        return Field {
-            length,
-            wrong: f.wrong,
-            value: one_less(f.value),
-        };
+    // A comma stands once, after one digit or more.
+    #[tactic(auto, unfolding(crate::specs::Streaming::comma_fits))]
+    fn comma_fits(self, b: u8) -> bool
+        ensures { result ≡ comma_fits self b }
+    {
+        b == COMMA && self.value == 0 && 0 < self.length
     }
-    if comma_fits(f, b) {
-        return Field {
-            length,
-            wrong: f.wrong,
-            value: kind / SIZE_UNIT + NONE_TO_COME,
-        };
-    }
-    Field {
-        length,
-        wrong: wrong_at(f),
-        value: f.value,
-    }
-}
 
-// Of a fixed text each byte is asked.
-pub fn is_fixed_class(class: u64) -> bool
-    ensures { result ≡ is_fixed_class class }
-{
-    class == CLASS_LFPD || class == CLASS_BRASIL
-}
+    // A digit of a number with so many decimals stands unless all of them have come. Before the comma the value stays 0.
+    #[tactic(auto, unfolding(crate::specs::Streaming::decimal_with, crate::specs::Streaming::digit_fits))]
+    fn add_decimal(&mut self, decimals: u64, b: u8)
+        requires fit { FieldFit self.old }
+        requires few { decimals < cap }
+        ensures { self.new ≡ decimal_with decimals self.old b }
+    {
+        if is_digit(b) && self.value != NONE_TO_COME {
+            self.value = self.value.saturating_sub(1);
+            return self.add(true);
+        }
+        if self.comma_fits(b) {
+            self.value = decimals + NONE_TO_COME;
+            return self.add(true);
+        }
+        self.add(false);
+    }
 
-// One more byte of a field of this kind; of a text only the length is asked. What stands before the texts are codes.
-pub fn with_byte(kind: u64, f: Field, b: u8) -> Field
-    requires { FieldFit f }
-    ensures { result ≡ with_byte kind f b }
-{
-    let class = kind % SIZE_UNIT;
-    if class == CLASS_C {
-        return Field {
-            length: f.length + 1,
-            wrong: f.wrong,
-            value: f.value,
-        };
+    // One more byte of a field of this kind; of a text only the length is asked.
+    #[tactic(auto, using(crate::proofs::KindLaws::byte_at), unfolding(layout::specs::Text::bytes))]
+    pub fn add_byte(&mut self, kind: Kind, b: u8)
+        requires { FieldFit self.old }
+        ensures { self.new ≡ with_byte (number_of kind) self.old b }
+    {
+        match kind.class {
+            Class::Text => self.add(true),
+            Class::NoField | Class::Code | Class::LineCode => self.add_to_code(b),
+            Class::Decimals => self.add_decimal(kind.size as u64, b),
+            Class::Lfpd => self.add_to_fixed(b"LFPD", b),
+            Class::Brasil => self.add_to_fixed(b"Brasil", b),
+            _ => self.add_digit(b),
+        }
     }
-    if class < CLASS_C {
-        return code_with(f, b);
-    }
-    if class == CLASS_DECIMALS {
-        return decimal_with(kind, f, b);
-    }
-    if is_fixed_class(class) {
-        return fixed_with(class, f, b);
-    }
-    digit_with(f, b)
 }

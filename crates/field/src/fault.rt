@@ -1,160 +1,109 @@
-// What the bar after a field finds: the broken rule's number, 0 where none is broken.
-ghost use Rattle.std.specs.Prelude.{◌≡◌};
-ghost use Rattle.field.specs.Streaming.{empty_fault, right_form, is_exact, right_size, digits_fault, content_fault, number_fault};
-ghost use Rattle.field.specs.Streaming.{is_fixed, text_fault, is_text_class, fault_of};
+// What the bar after a field finds: the rule that the field breaks by itself.
+ghost use Rattle.std.specs.Prelude.{◌≡◌, ltb};
+ghost use Rattle.layout.specs.Pick.{pick};
+ghost use Rattle.layout.specs.Packed.{class_number, number_of};
+ghost use Rattle.rules.specs.Numbers.{broken, rule_number};
+ghost use Rattle.field.specs.Streaming.{empty_fault, right_form, right_size, content_fault, number_fault, is_fixed, fault_of};
 
-use crate::bytes::{
-    CLASS_C, CLASS_CNPJ, CLASS_COUNT, CLASS_CPF, CLASS_DATE, CLASS_DECIMALS, CLASS_LINE_CODE,
-    CLASS_N_ANY, CLASS_OPENS, Field, NONE_TO_COME, SIZE_UNIT, is_fixed_class,
-};
+use crate::bytes::{Field, NONE_TO_COME};
 use crate::check_digits::{is_cnpj, is_cpf};
 use crate::date::is_date;
+use layout::kinds::{Class, Kind};
+use rules::Rule;
 
-pub const WRONG_CHARACTERS: u64 = 10;
-
-const WRONG_SIZE: u64 = 11;
-
-const WRONG_CONTENT: u64 = 12;
-
-const UNTRUE_COUNT: u64 = 13;
-
-pub const WRONG_CHECK_DIGIT: u64 = 24;
+// What holds, or else breaks the rule.
+fn ensure(holds: bool, rule: Rule) -> Result<(), Rule>
+    ensures { broken result ≡ pick holds 0 (rule_number rule) }
+{
+    if holds { Ok(()) } else { Err(rule) }
+}
 
 // Of an empty number: a count and field 2 of an opening must hold something.
-fn empty_fault(class: u64) -> u64
-    ensures { result ≡ empty_fault class }
+#[tactic(auto, unfolding(crate::specs::Streaming::empty_fault))]
+fn empty_fault(class: Class) -> Result<(), Rule>
+    ensures { broken result ≡ empty_fault (class_number class) }
 {
-    if class == CLASS_OPENS {
-        return WRONG_CONTENT;
+    match class {
+        Class::Opens => Err(Rule::WrongContent),
+        Class::Count => Err(Rule::UntrueCount),
+        _ => Ok(()),
     }
-    if class == CLASS_COUNT {
-        return UNTRUE_COUNT;
-    }
-    0
 }
 
-fn right_form(class: u64, f: Field) -> bool
-    ensures { result ≡ right_form class f }
+// Of a number with decimals all of them have come.
+#[tactic(auto, unfolding(crate::specs::Streaming::right_form))]
+fn right_form(class: Class, f: Field) -> bool
+    ensures { result ≡ right_form (class_number class) f }
 {
-    if f.wrong != 0 {
-        return false;
+    match class {
+        Class::Decimals => f.wrong == 0 && f.value == NONE_TO_COME,
+        _ => f.wrong == 0,
     }
-    if class != CLASS_DECIMALS {
-        return true;
-    }
-    f.value == NONE_TO_COME
 }
 
-// The numbers whose size is asked.
-fn is_exact(class: u64) -> bool
-    ensures { result ≡ is_exact class }
+// Of most numbers the size is asked.
+#[tactic(auto, unfolding(crate::specs::Streaming::right_size, crate::specs::Streaming::is_exact))]
+fn right_size(class: Class, size: u64, length: u64) -> bool
+    ensures { result ≡ right_size (class_number class) size length }
 {
-    if class == CLASS_DECIMALS {
-        return false;
+    match class {
+        Class::Number | Class::Decimals | Class::Count => true,
+        _ => length == size,
     }
-    if class == CLASS_N_ANY {
-        return false;
-    }
-    class != CLASS_COUNT
 }
 
-fn right_size(class: u64, size: u64, length: u64) -> bool
-    ensures { result ≡ right_size class size length }
+#[tactic(auto, unfolding(crate::specs::Streaming::content_fault, crate::specs::Streaming::digits_fault))]
+fn content_fault(class: Class, value: u64, due: u64) -> Result<(), Rule>
+    ensures { broken result ≡ content_fault (class_number class) value due }
 {
-    if is_exact(class) {
-        return length == size;
+    match class {
+        Class::Date => ensure(is_date(value), Rule::WrongContent),
+        Class::Opens => ensure(value <= 1, Rule::WrongContent),
+        Class::Count => ensure(value == due, Rule::UntrueCount),
+        Class::Cnpj => ensure(is_cnpj(value), Rule::WrongCheckDigit),
+        Class::Cpf => ensure(is_cpf(value), Rule::WrongCheckDigit),
+        _ => Ok(()),
     }
-    true
 }
 
-// Rule 24 of a CNPJ and of a CPF.
-fn digits_fault(class: u64, value: u64) -> u64
-    ensures { result ≡ digits_fault class value }
-{
-    if class == CLASS_CNPJ {
-        return if is_cnpj(value) { 0 } else { WRONG_CHECK_DIGIT };
-    }
-    if class == CLASS_CPF {
-        return if is_cpf(value) { 0 } else { WRONG_CHECK_DIGIT };
-    }
-    0
-}
-
-// Of plain numbers, those of the classes up to decimals, nothing more is asked. Most are plain, so they are told first.
-fn content_fault(class: u64, value: u64, due: u64) -> u64
-    ensures { result ≡ content_fault class value due }
-{
-    if class <= CLASS_DECIMALS {
-        return 0;
-    }
-    if class == CLASS_DATE {
-        return if is_date(value) { 0 } else { WRONG_CONTENT };
-    }
-    if class == CLASS_OPENS {
-        return if value <= 1 { 0 } else { WRONG_CONTENT };
-    }
-    if class == CLASS_COUNT {
-        return if value == due { 0 } else { UNTRUE_COUNT };
-    }
-    digits_fault(class, value)
-}
-
-fn number_fault(class: u64, size: u64, f: Field, due: u64) -> u64
-    ensures { result ≡ number_fault class size f due }
+#[tactic(auto, unfolding(crate::specs::Streaming::number_fault))]
+fn number_fault(class: Class, size: u64, f: Field, due: u64) -> Result<(), Rule>
+    ensures { broken result ≡ number_fault (class_number class) size f due }
 {
     if f.length == 0 {
         return empty_fault(class);
     }
-    if !right_form(class, f) {
-        return WRONG_CHARACTERS;
-    }
-    if !right_size(class, size, f.length) {
-        return WRONG_SIZE;
-    }
+    ensure(right_form(class, f), Rule::WrongCharacters)?;
+    ensure(right_size(class, size, f.length), Rule::WrongSize)?;
     content_fault(class, f.value, due)
 }
 
-fn is_fixed(f: Field, size: u64) -> bool
-    ensures { result ≡ is_fixed f size }
+// A text that is no longer than its size.
+fn size_fault(size: u64, f: Field) -> Result<(), Rule>
+    ensures { broken result ≡ pick (ltb size f.length) 11 0 }
 {
-    if f.wrong != 0 {
-        return false;
-    }
-    f.length == size
+    ensure(f.length <= size, Rule::WrongSize)
 }
 
-fn text_fault(class: u64, size: u64, f: Field) -> u64
-    ensures { result ≡ text_fault class size f }
+// A fixed text has all its bytes.
+#[tactic(auto, unfolding(crate::specs::Streaming::is_fixed))]
+fn fixed_fault(size: u64, f: Field) -> Result<(), Rule>
+    ensures { broken result ≡ pick (ltb size f.length) 11 (pick (is_fixed f size) 0 12) }
 {
-    if size < f.length {
-        return WRONG_SIZE;
-    }
-    if class <= CLASS_C {
-        return 0;
-    }
-    if is_fixed(f, size) {
-        return 0;
-    }
-    WRONG_CONTENT
-}
-
-fn is_text_class(class: u64) -> bool
-    ensures { result ≡ is_text_class class }
-{
-    class <= CLASS_C || is_fixed_class(class)
+    size_fault(size, f)?;
+    ensure(f.wrong == 0 && f.length == size, Rule::WrongContent)
 }
 
 // The bar after a field of this kind; `due` is what a count must state.
-pub fn fault(kind: u64, f: Field, due: u64) -> u64
-    ensures { result ≡ fault_of kind f due }
+#[tactic(auto, using(crate::proofs::KindLaws::fault_at), unfolding(crate::specs::Streaming::text_fault, crate::specs::Streaming::is_text_class))]
+pub fn fault(kind: Kind, f: Field, due: u64) -> Result<(), Rule>
+    ensures { broken result ≡ fault_of (number_of kind) f due }
 {
-    let class = kind % SIZE_UNIT;
-    let size = kind / SIZE_UNIT;
-    if class < CLASS_LINE_CODE {
-        return 0;
+    let size = kind.size as u64;
+    match kind.class {
+        Class::NoField | Class::Code => Ok(()),
+        Class::LineCode | Class::Text => size_fault(size, f),
+        Class::Lfpd | Class::Brasil => fixed_fault(size, f),
+        _ => number_fault(kind.class, size, f, due),
     }
-    if is_text_class(class) {
-        return text_fault(class, size, f);
-    }
-    number_fault(class, size, f, due)
 }

@@ -1,16 +1,16 @@
 -- `fault::fault` meets its contract.
-use Rattle.field.specs.Streaming.{fault_of}
-use Rattle.field.proofs.Picks.{called}
+use mathlib.Core.Logic.{⊎_elim}
+use Rattle.std.proofs.lemmas.Grind.{common_steps}
+use native.Mathlib.Omega.{arith}
+use Rattle.field.specs.Streaming.{is_text_class, text_fault}
+use Rattle.field.proofs.KindLaws.{fault_at}
 use Rattle.field.proofs.fault.fault.Goals as goal
 
-pub returns-then-class-lt-CLASS_LINE_CODE : goal.returns-then-class-lt-CLASS_LINE_CODE
-unfolding fault_of
-returns-then-class-lt-CLASS_LINE_CODE c = search called depth 12
+pub returns-in-Lfpd : goal.returns-in-Lfpd
+unfolding is_text_class text_fault
+returns-in-Lfpd c =
+    rw fault_at (⊎_elim (λ e. rw e c.fixed_fault.ensures) (λ e. rw e c.fixed_fault.ensures) c.in-Lfpd.is)
 
-pub returns-then-is_text_class : goal.returns-then-is_text_class
-unfolding fault_of
-returns-then-is_text_class c = search called depth 12
-
-pub returns : goal.returns
-unfolding fault_of
-returns c = search called depth 12
+pub returns-in_default : goal.returns-in_default
+unfolding is_text_class
+returns-in_default c = grind (arith, common_steps, fault_at)
