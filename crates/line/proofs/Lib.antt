@@ -13,3 +13,5 @@ pub mod Sim
 pub mod PositionSim
 pub mod StepLines
 pub mod TallyRanges
+pub mod StepRanges
+pub mod HeldLaws

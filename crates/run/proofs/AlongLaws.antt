@@ -16,7 +16,7 @@ use Rattle.line.specs.Tally.{Held}
 use Rattle.line.specs.declared.tally.Tally.{Tally}
 use Rattle.run.specs.declared.place.Place.{Place}
 use Rattle.line.specs.Tally.{set_of, raised_of, tally_of}
-use Rattle.state.specs.Piece.{AllBytes}
+use Rattle.rules.specs.Bytes.{AllBytes}
 use Rattle.run.specs.Places.{hot_at, Placed, place_of, Begins, PassesTo, Headed, Fielded, EndsHere}
 use Rattle.run.specs.Places.{next_line, safe_of, Along, Onward}
 use Rattle.run.specs.Places.Passes.{here}

@@ -30,7 +30,7 @@ use Rattle.line.specs.Machine.{Next}
 use Rattle.line.specs.declared.tally.Tally.{Tally}
 use Rattle.run.specs.declared.place.Place.{Place}
 use Rattle.line.specs.Tally.{step_with}
-use Rattle.state.specs.Piece.{AllBytes}
+use Rattle.rules.specs.Bytes.{AllBytes}
 use Rattle.run.specs.Places.{Passes, code_at, Follows, line_start, field_start, PassesTo, Placed, Headed}
 use Rattle.run.specs.Places.Passes.{here}
 use Rattle.run.proofs.PassLaws.{no_control, no_bar, no_end, passes_join, passes_byte}

@@ -12,9 +12,10 @@ use Rattle.line.specs.Tally.{Held}
 use Rattle.line.specs.declared.tally.Tally.{Tally}
 use Rattle.state.specs.declared.answers.Checked.{Checked}
 use Rattle.line.specs.Tally.{tally_of, tally_with, on_step, step_with, kept_after}
-use Rattle.state.specs.Piece.{open_of, stopped_of, run_of, AllBytes}
+use Rattle.state.specs.Piece.{open_of, stopped_of, run_of}
+use Rattle.rules.specs.Bytes.{AllBytes}
 use Rattle.run.specs.Places.{Onward}
-use Rattle.state.proofs.RunLaws.{bytes_next, held_next}
+use Rattle.line.proofs.HeldLaws.{bytes_next, held_next}
 use Rattle.run.proofs.PassLaws.{bytes_from, passes_run, passes_held}
 
 -- The loop's invariant: the run from the start is the run from here over what is left of the piece.

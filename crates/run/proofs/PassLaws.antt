@@ -16,10 +16,11 @@ use Rattle.line.specs.Machine.{Next}
 use Rattle.line.specs.Tally.{Held}
 use Rattle.line.specs.declared.tally.Tally.{Tally}
 use Rattle.line.specs.Tally.{counts_with, stamps_with, occurrences_with, totals_with, stated_with, pairs_with, tally_with, step_with}
-use Rattle.state.specs.Piece.{run_of, AllBytes}
+use Rattle.state.specs.Piece.{run_of}
+use Rattle.rules.specs.Bytes.{AllBytes}
 use Rattle.run.specs.Places.{Passes}
 use Rattle.run.specs.Places.Passes.{here, byte}
-use Rattle.state.proofs.RunLaws.{held_next}
+use Rattle.line.proofs.HeldLaws.{held_next}
 
 pub bytes_from : (s : List ℕ) → AllBytes s → (i : ℕ) → AllBytes (drop i s)
 bytes_from s all i k = rw (get_or-drop i s k 0) (all (i + k))

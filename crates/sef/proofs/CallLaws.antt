@@ -15,7 +15,7 @@ use Rattle.state.specs.Piece.{run_of, kept_of}
 use Rattle.sef.specs.Calls.{check_of, unchanged, final_answer_of, closed_of, finally_unchanged, finish_of}
 use Rattle.sef.specs.Calls.{report_of, reported_of}
 use Rattle.state.specs.Ranges.{ranged_of}
-use Rattle.state.specs.Piece.{AllBytes}
+use Rattle.rules.specs.Bytes.{AllBytes}
 use Rattle.sef.specs.Promises.{more, done, Checks, Finishes, Reports}
 use Rattle.state.specs.declared.State.{State}
 use Rattle.state.specs.declared.answers.Numbers.{Numbers}

@@ -13,7 +13,7 @@ use Rattle.state.specs.Answers.{numbers}
 use Rattle.state.specs.Piece.{kept_of}
 use Rattle.sef.specs.Calls.{unchanged, check_of, final_answer_of, finally_unchanged, finish_of, report_of, reported_of}
 use Rattle.state.specs.Ranges.{ranged_of}
-use Rattle.state.specs.Piece.{AllBytes}
+use Rattle.rules.specs.Bytes.{AllBytes}
 use Rattle.sef.specs.Promises.{Reports}
 use Rattle.state.specs.declared.State.{State}
 use Rattle.state.specs.declared.answers.Checked.{Checked}

@@ -40,8 +40,9 @@ use Rattle.state.specs.declared.answers.FinalAnswer.{FinalAnswer}
 use Rattle.state.specs.declared.answers.FinalAnswer.TheVariants as Final
 use Rattle.state.specs.declared.answers.ReportAnswer.{ReportAnswer}
 use Rattle.state.specs.declared.answers.ReportAnswer.TheVariants as Report
-use Rattle.state.proofs.RangeLaws.{kept_refusal, no_field_lem, no_position_lem, OfRule, of_rule, not_of_call, rule_some}
-use Rattle.state.proofs.StepRanges.{position_ranged_lem}
+use Rattle.state.proofs.RangeLaws.{kept_refusal, no_field_lem, no_position_lem, rule_some}
+use Rattle.rules.proofs.OfRule.{OfRule, of_rule, not_of_call}
+use Rattle.state.proofs.RangeLaws.{position_ranged_lem}
 use Rattle.state.proofs.RunLaws.{Comes, opens, stops_by}
 use Rattle.sef.proofs.InRangeLaws.{stopped_ranged, Pieces, late, kept, run, check_pieces, Finishing, closes}
 use Rattle.sef.proofs.InRangeLaws.{finish_finishing}

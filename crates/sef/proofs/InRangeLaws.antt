@@ -15,10 +15,11 @@ use Rattle.line.specs.Machine.{most_bars, position_of}
 use Rattle.state.specs.Piece.{state_of, open_of, stopped_of, judged_one, run_of, kept_of}
 use Rattle.sef.specs.Calls.{fresh, unchanged, check_of, final_answer_of}
 use Rattle.sef.specs.Calls.{closed_of, finally_unchanged, finish_of}
-use Rattle.state.specs.Ranges.{line_ranged, hot_ranged, is_rule, refusal_ranged, tally_ranged, ranged_of}
+use Rattle.state.specs.Ranges.{line_ranged, hot_ranged, refusal_ranged, tally_ranged, ranged_of}
+use Rattle.rules.specs.Numbers.{is_rule}
 use Rattle.line.specs.Tally.{Held}
 use Rattle.line.specs.Tally.{TallyFit}
-use Rattle.state.specs.Piece.{AllBytes}
+use Rattle.rules.specs.Bytes.{AllBytes}
 use Rattle.line.specs.declared.hot.Hot.{Hot}
 use Rattle.state.specs.declared.State.{State}
 use Rattle.line.specs.declared.tally.Tally.{Tally}
@@ -27,7 +28,8 @@ use Rattle.state.specs.declared.answers.Finished.{Finished}
 use Rattle.state.specs.declared.answers.Answer.TheVariants as Piece
 use Rattle.state.specs.declared.answers.FinalAnswer.TheVariants as Final
 use Rattle.state.proofs.RangeLaws.{open_ranged, broken_ranged, held_of, ranged_by}
-use Rattle.state.proofs.StepRanges.{judged_fit, position_ranged_lem}
+use Rattle.line.proofs.StepRanges.{judged_fit}
+use Rattle.state.proofs.RangeLaws.{position_ranged_lem}
 use Rattle.state.proofs.RunLaws.{Comes, opens, stops_by, run_comes}
 
 pub fresh_ranged : ranged_of fresh ≡ true

@@ -16,8 +16,9 @@ use Rattle.rules.specs.Totals.{closings_state, stated_by, lines_of, last_line, r
 use Rattle.line.specs.Machine.{most_bars}
 use Rattle.state.specs.Answers.{numbers, numbers_of, said, finally_said, report_said}
 use Rattle.sef.specs.Calls.{fresh, check_of}
-use Rattle.state.specs.Ranges.{is_rule, position_ranged, ranged_of}
-use Rattle.state.specs.Piece.{AllBytes}
+use Rattle.rules.specs.Numbers.{is_rule}
+use Rattle.state.specs.Ranges.{position_ranged, ranged_of}
+use Rattle.rules.specs.Bytes.{AllBytes}
 use Rattle.sef.specs.Promises.{Reached, Given, Checks, Finishes, Reports}
 use Rattle.state.specs.declared.State.{State}
 use Rattle.state.specs.declared.answers.Numbers.{Numbers}

@@ -1,5 +1,4 @@
 pub mod RangeLaws
 pub mod SumLaws
 pub mod PartLaws
-pub mod StepRanges
 pub mod RunLaws

@@ -14,8 +14,14 @@ use Rattle.rules.specs.Rules.{byte_limit}
 use Rattle.rules.specs.Totals.{sum, block_count}
 use Rattle.rules.proofs.TestLaws.{both, split, and_left, and_right, and-false}
 use Rattle.field.specs.Streaming.{cap}
-use Rattle.line.specs.Machine.{HotFit, most_bars, untrue, most_says}
-use Rattle.state.specs.Ranges.{within_to, totals_to, line_ranged, hot_ranged, is_rule, position_ranged, refusal_ranged}
+use Rattle.field.specs.Streaming.{wrong_at}
+use Rattle.field.proofs.LengthLaws.{wrong_at_le}
+use Rattle.field.proofs.WrongLaws.{wrong_at_some}
+use Rattle.layout.specs.Pick.{pick}
+use Rattle.rules.specs.Numbers.{is_rule}
+use Rattle.rules.proofs.OfRule.{OfRule}
+use Rattle.line.specs.Machine.{HotFit, most_bars, untrue, most_says, position_of}
+use Rattle.state.specs.Ranges.{within_to, totals_to, line_ranged, hot_ranged, position_ranged, refusal_ranged}
 use Rattle.state.specs.Ranges.{tally_ranged, ranged_of}
 use Rattle.line.specs.Tally.{TallyFit, Held}
 use Rattle.line.specs.declared.hot.Hot.{Hot}
@@ -165,27 +171,6 @@ pub open_ranged : (bytes : ℕ) → bytes ≤ byte_limit → refusal_ranged 0 0 
 unfolding refusal_ranged
 open_ranged bytes l = rw (le-leb bytes byte_limit l)
 
--- nothing refused, or a rule's number
-abbrev pub OfRule : ℕ → Type 0
-OfRule n = (eqb n 0 || is_rule n) ≡ true
-
-pub of_rule : (n : ℕ) → is_rule n ≡ true → OfRule n
-of_rule n e = rw e (or-true (eqb n 0))
-
--- none of them is 17, 18 or 19
-pub not_of_call : {X : Type 0} (n : ℕ) → OfRule n → 17 ≤ n → n ≤ 19 → X
-not_of_call n e l m =
-    both e
-    (rw (
-      ne_eqb n 0 (λ z. omega arith),
-      lt-leb n 16 (omega arith),
-      ne_eqb n 20 (λ z. omega arith),
-      ne_eqb n 21 (λ z. omega arith),
-      ne_eqb n 23 (λ z. omega arith),
-      ne_eqb n 24 (λ z. omega arith),
-      and-false (leb 1 n),
-    ))
-
 pub rule_some : (rule : ℕ) → is_rule rule ≡ true → rule ≡ 0 → ⊥
 rule_some rule e z = both e (rw z)
 
@@ -283,3 +268,17 @@ pub ranged_by : (s : State) → HotFit s.hot → TallyFit s.tally s.hot.lines s.
     → refusal_ranged s.rule s.field s.position s.hot.bytes ≡ true → ranged_of s ≡ true
 unfolding ranged_of
 ranged_by s f t r = rw (hot_ranged_lem s.hot f, r, tally_ranged_lem s.tally s.hot.lines s.hot.bytes t)
+
+-- the position that a rule's refusal gives is within the bytes judged
+pub position_ranged_lem : (h : Hot) → HotFit h → (rule : ℕ) → position_ranged rule (position_of h rule) (h.bytes + 1) ≡ true
+unfolding position_ranged position_of
+position_ranged_lem h f rule =
+    split (eqb rule 2)
+    (λ t. rw t (within (h.field.length + 1) (omega arith) (omega (arith, f.length))))
+    (λ t. split (eqb rule 10)
+    (λ u. rw (t, u)
+    (within (wrong_at h.field) (wrong_at_some h.field) (omega (arith, f.length, wrong_at_le h.field f.wrong))))
+    (λ u. rw (t, u)))
+  where
+    within : (p : ℕ) → 1 ≤ p → p ≤ h.bytes + 1 → (leb 1 p && leb p (h.bytes + 1)) ≡ true
+    within p l m = rw (le-leb 1 p l, le-leb p (h.bytes + 1) m)

@@ -38,7 +38,3 @@ unfoldable pub run_of : Hot → Tally → List ℕ → Checked
 run_of h t [] = open_of h t
 run_of h t (b ∷ rest) =
     on_step (step_with h t b) (λ n. run_of n (tally_with h n.lines b t) rest) (stopped_of h t)
-
--- each element of a piece is a byte
-abbrev pub AllBytes : List ℕ → Type 0
-AllBytes piece = (k : ℕ) → get_or piece k 0 < 256

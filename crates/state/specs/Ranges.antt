@@ -5,6 +5,7 @@ use Rattle.layout.specs.Lists.{all_below}
 use Rattle.layout.specs.Rows.{row_count, most_fields, blocks}
 use Rattle.layout.specs.Packed.{most_kind}
 use Rattle.rules.specs.Rules.{byte_limit}
+use Rattle.rules.specs.Numbers.{is_rule}
 use Rattle.rules.specs.Totals.{sum, block_count}
 use Rattle.field.specs.Streaming.{cap}
 use Rattle.line.specs.Machine.{Below, HotFit, most_bars, untrue, most_says}
@@ -32,10 +33,6 @@ unfoldable pub hot_ranged : Hot → Bool
 hot_ranged h =
     leb h.bytes (byte_limit + 1) && leb h.lines h.bytes && leb h.last row_count && leb h.since h.bytes
     && leb h.says most_says && line_ranged h
-
--- the numbers of the rules that the bytes or their end can break: 01's 1 to 16, and 02's 20, 21, 23 and 24
-abbrev pub is_rule : ℕ → Bool
-is_rule n = leb 1 n && leb n 16 || eqb n 20 || eqb n 21 || eqb n 23 || eqb n 24
 
 -- 02, request e: "a position, 0 for all but 2 and 10", of a byte that has been judged
 unfoldable pub position_ranged : ℕ → ℕ → ℕ → Bool

@@ -2,7 +2,8 @@
 ghost use Rattle.std.specs.Prelude.{◌≡◌, eqb, length};
 ghost use Rattle.layout.specs.Rows.{row_count, blocks};
 ghost use Rattle.rules.specs.Totals.{sum};
-ghost use Rattle.state.specs.Ranges.{within_to, totals_to, line_ranged, hot_ranged, is_rule, position_ranged};
+ghost use Rattle.state.specs.Ranges.{within_to, totals_to, line_ranged, hot_ranged, position_ranged};
+ghost use Rattle.rules.specs.Numbers.{is_rule};
 ghost use Rattle.state.specs.Ranges.{refusal_ranged, tally_ranged, ranged_of};
 
 use crate::{State, Tally};

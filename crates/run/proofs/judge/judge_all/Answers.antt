@@ -1,6 +1,6 @@
 use mathlib.Core.Path.{◌∙◌}
-use Rattle.state.specs.Piece.{AllBytes}
-use Rattle.state.proofs.RunLaws.{held_small}
+use Rattle.rules.specs.Bytes.{AllBytes}
+use Rattle.line.proofs.HeldLaws.{held_small}
 use Rattle.run.proofs.LoopLaws.{going_on, going_next, going_stop, going_end}
 use Rattle.run.proofs.judge.judge_all.Goals as goal
 

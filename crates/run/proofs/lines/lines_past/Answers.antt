@@ -3,8 +3,8 @@ use mathlib.Core.Path.{◌∙◌}
 use native.Mathlib.Omega.{arith}
 use lib.ListN.{length}
 use Rattle.layout.specs.Rows.{row_count}
-use Rattle.state.specs.Piece.{AllBytes}
-use Rattle.state.proofs.RunLaws.{held_small}
+use Rattle.rules.specs.Bytes.{AllBytes}
+use Rattle.line.proofs.HeldLaws.{held_small}
 use Rattle.run.proofs.PlaceLaws.{silent_block_lem}
 use Rattle.run.proofs.AlongLaws.{safe_length, place_fit, place_within, along_head, along_fields, along_end}
 use Rattle.run.proofs.lines.lines_past.Goals as goal

@@ -21,7 +21,7 @@ use Rattle.line.specs.Machine.{HotFit, judged_with, most_bars, number_unit, most
 use Rattle.line.specs.Machine.{stands_of, room_of, misplaced_of, word_row, number_of, states_of, dates_of, dated_of, says_of, field_bar_of}
 use Rattle.line.specs.Machine.{date_unit, Asked, pair_rule_of, asked_rule_of, found_of, bar_of}
 use Rattle.line.specs.Machine.{control_of, in_field_of, past_of, start_of, step_of, position_of}
-use Rattle.state.specs.Ranges.{is_rule, position_ranged}
+use Rattle.rules.specs.Numbers.{is_rule}
 use Rattle.line.specs.declared.hot.Hot.{Hot}
 use Rattle.line.specs.Machine.{Step, Next, Broken}
 use Rattle.layout.proofs.KindLaws.{kind_most}
@@ -30,7 +30,7 @@ use Rattle.field.proofs.LengthLaws.{one_longer, wrong_at_le, fit_after}
 use Rattle.field.proofs.WrongLaws.{wrong_at_some}
 use Rattle.line.proofs.RowLaws.{word_row_le}
 use Rattle.line.proofs.StatementLaws.{number_most}
-use Rattle.state.proofs.RangeLaws.{OfRule}
+use Rattle.rules.proofs.OfRule.{OfRule}
 
 -- what a bar finds is 0 or a rule
 pick_rule : (t : Bool) (a b : ℕ) → OfRule a → OfRule b → OfRule (pick t a b)
@@ -184,17 +184,3 @@ step_leads h f ss os a b byte = go (leb byte_limit h.bytes) refl
         (pick (eqb h.bars 0) (start_of h b) (pick (ltb h.fields h.bars) (past_of h b) (in_field_of h ss os a b))))
     go true e = stops {rule = 16} {field = 0} refl (omega arith)
     go false e = line_leads h f (leb-false _ _ e) ss os a b byte
-
--- the position that a rule's refusal gives is within the bytes judged
-pub position_ranged_lem : (h : Hot) → HotFit h → (rule : ℕ) → position_ranged rule (position_of h rule) (h.bytes + 1) ≡ true
-unfolding position_ranged position_of
-position_ranged_lem h f rule =
-    split (eqb rule 2)
-    (λ t. rw t (within (h.field.length + 1) (omega arith) (omega (arith, f.length))))
-    (λ t. split (eqb rule 10)
-    (λ u. rw (t, u)
-    (within (wrong_at h.field) (wrong_at_some h.field) (omega (arith, f.length, wrong_at_le h.field f.wrong))))
-    (λ u. rw (t, u)))
-  where
-    within : (p : ℕ) → 1 ≤ p → p ≤ h.bytes + 1 → (leb 1 p && leb p (h.bytes + 1)) ≡ true
-    within p l m = rw (le-leb 1 p l, le-leb p (h.bytes + 1) m)
