@@ -3,11 +3,9 @@ use mathlib.Core.Path.{◌≡◌, refl, subst}
 use Prim.Native.Nat.{ℕ, ◌+◌, ◌<◌, ◌≤◌}
 use native.Mathlib.Omega.{arith}
 use Rattle.rules.specs.Rules.{byte_limit}
-use Rattle.line.specs.Machine.{Below, HotFit}
+use Rattle.line.specs.Machine.{Below, HotFit, Step, Next, Broken}
 use Rattle.line.specs.Tally.{tally_with, step_with, Held}
 use Rattle.line.specs.declared.hot.Hot.{Hot}
-use Rattle.line.specs.declared.step.Step.{Step}
-use Rattle.line.specs.declared.step.Step.TheVariants.{Next, Broken}
 use Rattle.line.specs.declared.tally.Tally.{Tally}
 use Rattle.line.proofs.StepRanges.{Leads, goes, stops, step_leads}
 use Rattle.line.proofs.StepLines.{lf_lines, other_lines}

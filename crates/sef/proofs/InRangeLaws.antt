@@ -28,7 +28,7 @@ use Rattle.state.specs.declared.answers.Finished.{Finished}
 use Rattle.state.specs.declared.answers.Answer.TheVariants as Piece
 use Rattle.state.specs.declared.answers.FinalAnswer.TheVariants as Final
 use Rattle.state.proofs.RangeLaws.{open_ranged, broken_ranged, held_of, ranged_by}
-use Rattle.line.proofs.StepRanges.{judged_fit}
+use Rattle.line.proofs.HotRanges.{judged_fit}
 use Rattle.state.proofs.RangeLaws.{position_ranged_lem}
 use Rattle.state.proofs.RunLaws.{Comes, opens, stops_by, run_comes}
 
