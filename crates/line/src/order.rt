@@ -1,14 +1,13 @@
-// Where a line can stand, told from the row of the last line ended; and whether its row has room under the parent line.
+// Where a line can stand, told from the row of the last line ended.
 ghost use Rattle.std.specs.Prelude.{◌≡◌, ◌≤◌, ◌<◌};
 ghost use Rattle.layout.specs.Rows.{row_count, level};
-ghost use Rattle.layout.specs.Packed.{row_numbers, parent_column};
 ghost use Rattle.rules.specs.Order.{is_data};
 ghost use Rattle.layout.specs.Climb.{climb};
-ghost use Rattle.line.specs.Machine.{starts_of, ends_of, hangs_of, stands_of, entry_of, used_of, room_of, misplaced_of};
+ghost use Rattle.line.specs.Machine.{starts_of, ends_of, hangs_of, stands_of, misplaced_of};
 
 use layout::parents::parent_at;
 use layout::roles::{block_at, is_closing, is_opening};
-use layout::rows::{ANY, ENTRIES, ROWS, level_at, limit_at};
+use layout::rows::{ROWS, level_at};
 
 const ROW_0000: usize = 0;
 
@@ -27,128 +26,83 @@ pub const WITH_DATA: u64 = 1;
 pub const WITHOUT_DATA: u64 = 2;
 
 // The first of a row and its ancestors whose level is n or below.
-fn climb_to(rows: &[[u64; 4]; ENTRIES], parents: &[usize; ENTRIES], n: u64, from: usize) -> usize
-    requires { (rows.now ≡ row_numbers) × (parents.now ≡ parent_column) × (1 ≤ n) × (from ≤ row_count) }
+fn climb_to(n: u64, from: usize) -> usize
+    requires { (1 ≤ n) × (from ≤ row_count) }
     ensures { result ≡ climb n from }
 {
     let mut x = from;
-    while n < level_at(rows, x) {
-        x = parent_at(parents, x);
+    while n < level_at(x) {
+        x = parent_at(x);
     }
     x
 }
 
-fn starts_block(rows: &[[u64; 4]; ENTRIES], last: usize, r: usize) -> bool
-    requires { (rows.now ≡ row_numbers) × (last ≤ row_count) × (r ≤ row_count) }
+#[tactic(auto, unfolding(crate::specs::Machine::starts_of))]
+fn starts_block(last: usize, r: usize) -> bool
+    requires { (last ≤ row_count) × (r ≤ row_count) }
     ensures { result ≡ starts_of last r }
 {
-    let block = block_at(rows, r);
+    let block = block_at(r);
     if block == 0 {
         return last == ROW_0000;
     }
-    if is_closing(rows, last) {
-        return block_at(rows, last) < block;
-    }
-    false
+    is_closing(last) && block_at(last) < block
 }
 
-fn ends_block(rows: &[[u64; 4]; ENTRIES], last: usize, r: usize) -> bool
-    requires { (rows.now ≡ row_numbers) × (last ≤ row_count) × (r ≤ row_count) }
+#[tactic(auto, unfolding(crate::specs::Machine::ends_of))]
+fn ends_block(last: usize, r: usize) -> bool
+    requires { (last ≤ row_count) × (r ≤ row_count) }
     ensures { result ≡ ends_of last r }
 {
-    if block_at(rows, last) != block_at(rows, r) {
-        return false;
-    }
-    if is_closing(rows, last) {
-        return false;
-    }
-    0 < level_at(rows, last)
+    block_at(last) == block_at(r) && !is_closing(last) && 0 < level_at(last)
 }
 
-pub fn hangs(rows: &[[u64; 4]; ENTRIES], parents: &[usize; ENTRIES], last: usize, r: usize) -> bool
-    requires { (rows.now ≡ row_numbers) × (parents.now ≡ parent_column) × (last ≤ row_count) × (r < row_count) × (2 ≤ level r) }
+#[tactic(auto, unfolding(crate::specs::Machine::hangs_of))]
+pub fn hangs(last: usize, r: usize) -> bool
+    requires { (last ≤ row_count) × (r < row_count) × (2 ≤ level r) }
     ensures { result ≡ hangs_of last r }
 {
-    let parent = parent_at(parents, r);
-    climb_to(rows, parents, level_at(rows, parent), last) == parent
+    let parent = parent_at(r);
+    climb_to(level_at(parent), last) == parent
 }
 
-pub fn stands(rows: &[[u64; 4]; ENTRIES], parents: &[usize; ENTRIES], last: usize, r: usize) -> bool
-    requires { (rows.now ≡ row_numbers) × (parents.now ≡ parent_column) × (last ≤ row_count) × (r < row_count) }
+#[tactic(auto, unfolding(crate::specs::Machine::stands_of))]
+pub fn stands(last: usize, r: usize) -> bool
+    requires { (last ≤ row_count) × (r < row_count) }
     ensures { result ≡ stands_of last r }
 {
     if r == ROW_0000 {
         return last == ROWS;
     }
-    if is_opening(rows, r) {
-        return starts_block(rows, last, r);
+    if is_opening(r) {
+        return starts_block(last, r);
     }
-    if is_closing(rows, r) {
-        return ends_block(rows, last, r);
+    if is_closing(r) {
+        return ends_block(last, r);
     }
     if r == ROW_9999 {
         return last == ROW_9990;
     }
-    hangs(rows, parents, last, r)
+    hangs(last, r)
 }
 
-// An array's entry at a row; of no row 0.
-pub fn entry(array: &[u64; ROWS], r: usize) -> u64
-    ensures { result ≡ entry_of array.now r }
-{
-    if r < ROWS { array[r] } else { 0 }
-}
-
-// How many lines of the row stand under its parent line: none, if a parent line came after the last of them.
-pub fn used(
-    parents: &[usize; ENTRIES],
-    stamps: &[u64; ROWS],
-    occurrences: &[u64; ROWS],
-    r: usize,
-) -> u64
-    requires { (parents.now ≡ parent_column) × (r ≤ row_count) }
-    ensures { result ≡ used_of stamps.now occurrences.now r }
-{
-    if entry(stamps, parent_at(parents, r)) < entry(stamps, r) {
-        return entry(occurrences, r);
-    }
-    0
-}
-
-pub fn has_room(
-    rows: &[[u64; 4]; ENTRIES],
-    parents: &[usize; ENTRIES],
-    stamps: &[u64; ROWS],
-    occurrences: &[u64; ROWS],
-    r: usize,
-) -> bool
-    requires { (rows.now ≡ row_numbers) × (parents.now ≡ parent_column) × (r ≤ row_count) }
-    ensures { result ≡ room_of stamps.now occurrences.now r }
-{
-    let most = limit_at(rows, r);
-    if most == ANY {
-        return true;
-    }
-    used(parents, stamps, occurrences, r) < most
-}
-
-fn is_data(rows: &[[u64; 4]; ENTRIES], r: usize) -> bool
-    requires { (rows.now ≡ row_numbers) × (r ≤ row_count) }
+#[tactic(auto, unfolding(rules::specs::Order::is_data))]
+fn is_data(r: usize) -> bool
+    requires { r ≤ row_count }
     ensures { result ≡ is_data r }
 {
-    DATA_LEVEL <= level_at(rows, r)
+    DATA_LEVEL <= level_at(r)
 }
 
 // A data line after an opening that says there are none, or a closing right after one that says there are.
-pub fn misplaced(rows: &[[u64; 4]; ENTRIES], says: u64, r: usize) -> bool
-    requires { (rows.now ≡ row_numbers) × (r ≤ row_count) }
+#[tactic(auto, unfolding(crate::specs::Machine::misplaced_of))]
+pub fn misplaced(says: u64, r: usize) -> bool
+    requires { r ≤ row_count }
     ensures { result ≡ misplaced_of says r }
 {
-    if says == WITHOUT_DATA {
-        return is_data(rows, r);
+    match says {
+        WITH_DATA => is_closing(r),
+        WITHOUT_DATA => is_data(r),
+        _ => false,
     }
-    if says == WITH_DATA {
-        return is_closing(rows, r);
-    }
-    false
 }

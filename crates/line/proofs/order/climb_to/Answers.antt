@@ -14,8 +14,10 @@ loop-x-smaller c =
 pub loop-x-preserved : goal.loop-x-preserved
 loop-x-preserved c =
     let at = c.loop-x in
-    let on = climb_on c.args.n at.x c.requires.2 (omega arith) in
-    rw c.parent_at-x.ensures (parent_le at.x at.invariant.0, at.invariant.1 ∙ on)
+    rw c.parent_at-x.ensures record {
+      row_or_none = parent_le at.x at.invariant.row_or_none;
+      climbs = at.invariant.climbs ∙ climb_on c.args.n at.x c.requires.0 (omega arith);
+    }
 
 pub returns : goal.returns
-returns c = sym (c.loop-x.invariant.1 ∙ climb_stop _ _ (omega arith))
+returns c = sym (c.loop-x.invariant.climbs ∙ climb_stop _ _ (omega arith))
