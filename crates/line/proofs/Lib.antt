@@ -9,6 +9,8 @@ pub mod PairLaws
 pub mod OrderSim
 pub mod FieldSim
 pub mod PairSim
+pub mod PeriodPlaces
+pub mod Searches
 pub mod Sim
 pub mod PositionSim
 pub mod StepLines

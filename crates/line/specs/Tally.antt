@@ -1,5 +1,5 @@
 -- What is kept of the lines ended, for each row and each block: after each step of the line at hand, at every state.
-use Rattle.std.specs.Prelude.{◌≡◌, ◌&&◌, List, ℕ, suc, ◌+◌, ◌/◌, ◌%◌, ◌≤◌, ◌<◌, eqb, ltb, length, get_or, set}
+use Rattle.std.specs.Prelude.{◌≡◌, ◌&&◌, List, ℕ, suc, ◌+◌, ◌/◌, ◌%◌, ◌≤◌, ◌<◌, eqb, ltb, length, get_or, set, replicate}
 use Rattle.layout.specs.Pick.{pick}
 use Rattle.layout.specs.Rows.{row_count, row9900, block, blocks}
 use Rattle.layout.specs.Periods.{period_count, period_of}
@@ -7,7 +7,7 @@ use Rattle.rules.specs.Bytes.{LF}
 use Rattle.rules.specs.Periods.{most_pairs}
 use Rattle.rules.specs.Rules.{byte_limit}
 use Rattle.rules.specs.Totals.{sum, block_count}
-use Rattle.line.specs.Machine.{Below, HotFit, number_unit, entry_of, used_of, joined_of, pair_start, untrue, asked_of, step_of}
+use Rattle.line.specs.Machine.{Below, HotFit, number_unit, entry_of, used_of, joined_of, pair_start, pair_count, untrue, asked_of, step_of}
 use Rattle.line.specs.declared.hot.Hot.{Hot}
 use Rattle.line.specs.Machine.{Step, Next, Broken}
 use Rattle.line.specs.declared.tally.Tally.{Tally}
@@ -54,10 +54,33 @@ abbrev pub tally_of : List ℕ → List ℕ → List ℕ → List ℕ → List �
 tally_of counts stamps occurrences totals stated pairs =
     record { counts = counts; stamps = stamps; occurrences = occurrences; totals = totals; stated = stated; pairs = pairs }
 
+-- before the first line
+abbrev pub fresh_tally : Tally
+fresh_tally =
+    tally_of (replicate row_count 0) (replicate row_count 0) (replicate row_count 0) (replicate blocks 0) (replicate (suc row_count) 0)
+    (replicate pair_count 0)
+
 abbrev pub tally_with : Hot → ℕ → ℕ → Tally → Tally
 tally_with h n b t =
     tally_of (counts_with h b t.counts) (stamps_with h n b t.stamps) (occurrences_with h b t.stamps t.occurrences)
     (totals_with h b t.totals) (stated_with h b t.stated) (pairs_with h b t.counts t.pairs)
+
+-- one more line of row r, the file's line n
+abbrev pub counted_tally : Tally → ℕ → ℕ → Tally
+counted_tally t r n =
+    tally_of (set_of t.counts r (entry_of t.counts r + 1)) (set_of t.stamps r n)
+    (set_of t.occurrences r (used_of t.stamps t.occurrences r + 1)) t.totals t.stated t.pairs
+
+-- one more line of block x
+abbrev pub raised_tally : Tally → ℕ → Tally
+raised_tally t x = tally_of t.counts t.stamps t.occurrences (raised_of t.totals x) t.stated t.pairs
+
+-- what the line at hand says, once it ends: a pair of dates, or what a 9900 line states
+abbrev pub paired_tally : Tally → Hot → Tally
+paired_tally t h = tally_of t.counts t.stamps t.occurrences t.totals t.stated (paired_of h (entry_of t.counts h.row) t.pairs)
+
+abbrev pub stated_tally : Tally → Hot → Tally
+stated_tally t h = tally_of t.counts t.stamps t.occurrences t.totals (stated_with h LF t.stated) t.pairs
 
 abbrev pub on_step : {A : Type 0} → Step → (Hot → A) → (ℕ → ℕ → A) → A
 on_step (Next n) go stop = go n

@@ -3,7 +3,6 @@
 
 pub mod hot;
 pub mod line;
-pub mod notes;
 pub mod order;
 pub mod periods;
 pub mod statements;
