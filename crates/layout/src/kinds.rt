@@ -12,6 +12,12 @@ pub const FIELDS: usize = 1238;
 // A kind's number is its class plus SIZE_UNIT times its size.
 const SIZE_UNIT: u64 = 16;
 
+// The largest size: that of TXT, field 3 of 0450.
+const SIZE_MOST: u64 = 65536;
+
+// A class is below SIZE_UNIT.
+pub const KIND_MOST: u64 = SIZE_UNIT * (SIZE_MOST + 1) - 1;
+
 // What a field may hold, by number in this order.
 #[derive(Clone, Copy, PartialEq, Eq)]
 pub enum Class {
