@@ -1,9 +1,9 @@
 -- A step that goes on keeps all within the ranges.
-use mathlib.Core.Path.{◌≡◌, refl, subst}
-use Prim.Native.Nat.{ℕ, ◌+◌, ◌<◌, ◌≤◌}
+use mathlib.Core.Path.{◌≡◌, subst}
+use Prim.Native.Nat.{ℕ, ◌+◌, ◌<◌}
 use native.Mathlib.Omega.{arith}
 use Rattle.rules.specs.Rules.{byte_limit}
-use Rattle.line.specs.Machine.{Below, HotFit, Step, Next, Broken}
+use Rattle.line.specs.Machine.{Below, HotFit, Step, Next}
 use Rattle.line.specs.Tally.{tally_with, step_with, Held}
 use Rattle.line.specs.declared.hot.Hot.{Hot}
 use Rattle.line.specs.declared.tally.Tally.{Tally}

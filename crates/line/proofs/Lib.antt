@@ -1,9 +1,9 @@
-pub mod Steps
 pub mod StatementLaws
 pub mod DateLaws
 pub mod RowLaws
 pub mod KindLaws
 pub mod HotRanges
+pub mod KeptLaws
 pub mod HotOf
 pub mod PairLaws
 pub mod OrderSim

@@ -1,14 +1,12 @@
 -- What the answer says that a row has a place among those that have a period, or none; and what is kept of its pairs.
 use Rattle.std.specs.Prelude.{Option, Some, None}
 use mathlib.Core.Path.{◌≡◌, sym}
-use mathlib.Core.Bool.{Bool, true, false}
 use mathlib.Core.List.{List, [], ◌∷◌}
-use Prim.Native.Nat.{ℕ, suc, ◌+◌, ◌<◌, ◌≤◌, zero-le, suc-le-suc}
+use Prim.Native.Nat.{ℕ, suc, ◌<◌, ◌≤◌, zero-le, suc-le-suc}
 use native.Mathlib.Omega.{arith}
 use lib.Dec.{eqb}
 use lib.ListN.{length}
 use borrow.Author.Tests.{le-ltb}
-use Rattle.layout.specs.Pick.{pick}
 use Rattle.layout.specs.Packed.{some_but}
 use Rattle.layout.specs.Rows.{place_of}
 use Rattle.layout.specs.Periods.{periods, period_codes, period_count, period_of, later_date}

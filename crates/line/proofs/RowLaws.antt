@@ -1,5 +1,5 @@
 -- Rules of a line's row where it may be "no row": its fields, and the row of the code at hand.
-use mathlib.Core.Path.{◌≡◌}
+use mathlib.Core.Path.{◌≡◌, refl}
 use mathlib.Core.Bool.{Bool, true, false}
 use mathlib.Core.List.{[], ◌∷◌}
 use Prim.Native.Nat.{ℕ, ◌-◌, ◌<◌, ◌≤◌}
@@ -9,7 +9,8 @@ use native.Mathlib.Omega.{arith}
 use lib.Dec.{eqb}
 use lib.ListN.{get_or-eq_default}
 use Rattle.layout.specs.Pick.{pick}
-use Rattle.layout.specs.Rows.{row_count, none, fields, row_of_code}
+use Rattle.layout.specs.Text.{bytes, code_number, text_number}
+use Rattle.layout.specs.Rows.{row_table, listed, code, row_count, none, fields, row_of_code, row9999, blocks, block_letters, place_of, block}
 use Rattle.layout.specs.Kind.{code_field, no_field}
 use Rattle.layout.specs.Kinds.{kind}
 use Rattle.layout.proofs.KindLaws.{kind_past, kinds_none}
@@ -48,3 +49,7 @@ word_row_le h = go (eqb h.field.length 4)
     go : (t : Bool) → pick t (row_of_code h.field.value) none ≤ row_count
     go true = row_of_code_le h.field.value
     go false = le_refl row_count
+
+pub block_9999 : block row9999 ≡ blocks - 1
+unfolding row_table listed code block_letters place_of block bytes code_number text_number
+block_9999 = refl

@@ -1,35 +1,30 @@
 -- A step keeps within the ranges: from a hot part in range it goes on to one in range, or breaks a rule at a field of
 -- the line.
 use mathlib.Core.Path.{◌≡◌, refl}
-use mathlib.Core.Bool.{Bool, true, false, ◌&&◌}
+use mathlib.Core.Bool.{Bool, true, false}
 use mathlib.Core.List.{List}
-use Prim.Native.Nat.{ℕ, ◌+◌, ◌*◌, ◌%◌, ◌<◌, ◌≤◌}
-use native.Mathlib.Nat.{mod-lt}
+use Prim.Native.Nat.{ℕ, ◌+◌, ◌<◌, ◌≤◌}
 use native.Mathlib.Omega.{arith}
-use lib.Dec.{T, eqb, leb, ltb, leb→le, lit≤}
-use borrow.Author.Tests.{eqb-true, eqb-false, le-leb, leb-false, ltb-false}
+use lib.Dec.{T, eqb, leb, ltb, leb→le}
+use borrow.Author.Tests.{eqb-true, eqb-false, leb-false, ltb-false}
 use Rattle.layout.specs.Pick.{pick}
-use Rattle.layout.specs.Rows.{row_count, none, fields, most_fields, is_closing}
+use Rattle.layout.specs.Rows.{row_count, none, fields, most_fields}
 use Rattle.layout.specs.Kinds.{kind}
 use Rattle.layout.specs.Packed.{kind_number, most_kind}
-use Rattle.layout.specs.Periods.{period_count, period_of}
 use Rattle.rules.specs.Rules.{byte_limit}
-use Rattle.rules.proofs.TestLaws.{split, pick_le}
-use Rattle.field.specs.Streaming.{FieldFit, cap, wrong_at, empty_fault, digits_fault, content_fault, number_fault, text_fault, fault_of}
+use Rattle.field.specs.Streaming.{empty_fault, digits_fault, content_fault, number_fault, text_fault, fault_of}
 use Rattle.field.specs.declared.bytes.Field.{Field}
-use Rattle.line.specs.Machine.{HotFit, judged_with, most_bars, number_unit, most_says, grown_of, moved_of, ended_of, since_of, code_bar_of}
-use Rattle.line.specs.Machine.{stands_of, room_of, misplaced_of, word_row, number_of, states_of, dates_of, dated_of, says_of, field_bar_of}
-use Rattle.line.specs.Machine.{date_unit, Asked, pair_rule_of, asked_rule_of, found_of, bar_of}
-use Rattle.line.specs.Machine.{control_of, in_field_of, past_of, start_of, step_of, position_of}
+use Rattle.line.specs.Machine.{HotFit, most_bars, most_says, grown_of, moved_of, ended_of, code_bar_of}
+use Rattle.line.specs.Machine.{stands_of, room_of, misplaced_of, word_row, says_of, field_bar_of}
+use Rattle.line.specs.Machine.{Asked, pair_rule_of, asked_rule_of, found_of, bar_of}
+use Rattle.line.specs.Machine.{control_of, in_field_of, past_of, start_of, step_of}
 use Rattle.rules.specs.Numbers.{is_rule}
 use Rattle.line.specs.declared.hot.Hot.{Hot}
 use Rattle.line.specs.Machine.{Step, Next, Broken}
 use Rattle.layout.proofs.KindLaws.{kind_most}
 use Rattle.layout.proofs.RowLaws.{fields_two, fields_most}
-use Rattle.field.proofs.LengthLaws.{one_longer, wrong_at_le, fit_after}
-use Rattle.field.proofs.WrongLaws.{wrong_at_some}
+use Rattle.line.proofs.HotRanges.{moved_fit, grown_fit, ended_fit, says_le}
 use Rattle.line.proofs.RowLaws.{word_row_le}
-use Rattle.line.proofs.StatementLaws.{number_most}
 use Rattle.rules.proofs.OfRule.{OfRule}
 
 -- what a bar finds is 0 or a rule

@@ -1,5 +1,6 @@
 -- What the checker does with one byte, at every state, after the functions of the step.
 use Rattle.std.specs.Prelude.{Bool, not, ◌&&◌, ◌||◌, List, ℕ, suc, ◌+◌, ◌-◌, ◌*◌, ◌%◌, ◌≤◌, ◌<◌, min, eqb, leb, ltb, get_or}
+use Rattle.std.specs.Prelude.{Result, Ok, Err}
 use Rattle.layout.specs.Pick.{pick}
 use Rattle.layout.specs.Lists.{all_below}
 use Rattle.layout.specs.Rows.{row_count, none, any_number, level, limit, fields, most_fields, block}
@@ -12,15 +13,22 @@ use Rattle.rules.specs.Bytes.{bar, CR, LF, is_end_byte}
 use Rattle.rules.specs.Order.{is_data}
 use Rattle.rules.specs.Periods.{most_pairs}
 use Rattle.layout.specs.Climb.{climb}
+use Rattle.rules.specs.Numbers.{rule_number}
 use Rattle.rules.specs.Rules.{byte_limit}
 use Rattle.field.specs.Streaming.{cap, empty_field, wrong_at, with_byte, fault_of}
 use Rattle.field.specs.declared.bytes.Field.{Field}
 use Rattle.line.specs.declared.hot.Hot.{Hot}
+use Rattle.line.specs.declared.step.Refusal.{Refusal}
 
 -- what a byte comes to: the next state, or the broken rule with the field
 pub data Step : Type 0 where
   Next : Hot → Step
   Broken : ℕ → ℕ → Step
+
+-- the same, as the source says it: this is the state after the step
+abbrev pub step_said : {A : Type 0} → Result A Refusal → Hot → Step
+step_said (Ok x) h = Next h
+step_said (Err e) h = Broken (rule_number e.rule) e.field
 
 -- the most bars of a line: one before each field, and the last one
 abbrev pub most_bars : ℕ
