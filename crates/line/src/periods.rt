@@ -16,7 +16,7 @@ const DATE_UNIT: u64 = 100_000_000;
 impl Line {
     // The digits of the dates so far, with those of the date at hand.
     #[tactic(auto, unfolding(crate::specs::Machine::dates_of))]
-    pub fn dates(&self) -> u64
+    pub(crate) fn dates(&self) -> u64
         ensures { result ≡ dates_of self.now.hot }
     {
         self.hot.says % DATE_UNIT * DATE_UNIT + self.hot.field.value
@@ -24,7 +24,7 @@ impl Line {
 
     // What the line says after a date: the dates of its period, if its row has one.
     #[tactic(auto, unfolding(crate::specs::Machine::dated_of), using(crate::proofs::PeriodPlaces::places))]
-    pub fn dated(&self) -> u64
+    pub(crate) fn dated(&self) -> u64
         ensures { result ≡ dated_of self.now.hot }
     {
         match period_at(self.hot.row) {
