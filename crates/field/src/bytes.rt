@@ -1,7 +1,6 @@
 // What is kept of a field's bytes.
 ghost use Rattle.std.specs.Prelude.{◌≡◌, ◌<◌, ◌≤◌};
 ghost use Rattle.layout.specs.Packed.{number_of};
-ghost use Rattle.rules.specs.Fields.{is_digit};
 ghost use Rattle.field.specs.Streaming.{FieldFit, cap, empty_field, longer, wrong_at, wrong_with, code_with, value_with, digit_with};
 ghost use Rattle.field.specs.Streaming.{matches, text_with, comma_fits, decimal_with, with_byte};
 
@@ -32,13 +31,6 @@ pub fn start() -> Field
         wrong: 0,
         value: 0,
     }
-}
-
-#[tactic(auto, unfolding(rules::specs::Fields::is_digit))]
-fn is_digit(b: u8) -> bool
-    ensures { result ≡ is_digit b }
-{
-    b.is_ascii_digit()
 }
 
 // One more digit; past the cap the value stays there, and never comes back below it.
@@ -92,13 +84,13 @@ impl Field {
         self.add(true);
     }
 
-    #[tactic(auto, unfolding(crate::specs::Streaming::value_with, crate::specs::Streaming::digit_with, crate::specs::Streaming::wrong_at))]
+    #[tactic(auto, unfolding(crate::specs::Streaming::value_with, crate::specs::Streaming::digit_with, crate::specs::Streaming::wrong_at, rules::specs::Fields::is_digit))]
     fn add_digit(&mut self, b: u8)
         requires { FieldFit self.old }
         ensures { self.new ≡ digit_with self.old b }
     {
         self.value = value_with(self.value, b);
-        self.add(is_digit(b));
+        self.add(b.is_ascii_digit());
     }
 
     #[tactic(auto, unfolding(crate::specs::Streaming::text_with))]
@@ -118,13 +110,13 @@ impl Field {
     }
 
     // A digit of a number with so many decimals stands unless all of them have come. Before the comma the value stays 0.
-    #[tactic(auto, unfolding(crate::specs::Streaming::decimal_with, crate::specs::Streaming::digit_fits))]
+    #[tactic(auto, unfolding(crate::specs::Streaming::decimal_with, crate::specs::Streaming::digit_fits, rules::specs::Fields::is_digit))]
     fn add_decimal(&mut self, decimals: u64, b: u8)
         requires fit { FieldFit self.old }
         requires few { decimals < cap }
         ensures { self.new ≡ decimal_with decimals self.old b }
     {
-        if is_digit(b) && self.value != NONE_TO_COME {
+        if b.is_ascii_digit() && self.value != NONE_TO_COME {
             self.value = self.value.saturating_sub(1);
             return self.add(true);
         }
