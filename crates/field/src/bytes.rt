@@ -15,6 +15,7 @@ pub const NONE_TO_COME: u64 = 1;
 pub const CAP: u64 = 100_000_000_000_000;
 
 // How many bytes, the position of the first wrong one, from 1, or 0, and the value, by the field's kind.
+// Its ranges, FieldFit, are asked by the methods and no ghost field: a state holds any numbers, and `check` (Checks) answers of all.
 #[derive(Clone, Copy, PartialEq, Eq)]
 pub struct Field {
     pub length: u64,
