@@ -2,13 +2,14 @@
 use Rattle.std.proofs.Common.{◌≡◌, ℕ, ◌≤◌, true, false, leb, arith, le-ltb, ne_eqb, leb-true}
 use Rattle.rules.specs.Bytes.{bar}
 use Rattle.rules.specs.Fields.{is_digit}
-use Rattle.rules.proofs.TestLaws.{and_left, and_right}
+use Rattle.std.proofs.lemmas.Bool.{and_parts}
 use Rattle.whole.specs.Whole.{ends}
 
 pub digit_bounds : (b : ℕ) → is_digit b ≡ true → (48 ≤ b) × (b ≤ 57)
 unfolding is_digit
 digit_bounds b e =
-    (leb-true 48 b (and_left (leb 48 b) (leb b 57) e), leb-true b 57 (and_right (leb 48 b) (leb b 57) e))
+    let parts = and_parts (leb 48 b) (leb b 57) e in
+    (leb-true 48 b parts.0, leb-true b 57 parts.1)
 
 pub digit_plain : (b : ℕ) → is_digit b ≡ true → ends b ≡ false
 unfolding ends

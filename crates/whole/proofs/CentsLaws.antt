@@ -1,7 +1,7 @@
 -- A comma, two digits and a bar in a word, from one sum, two `^`, one `|` and one `&`.
-use Rattle.std.proofs.Common.{◌≡◌, ℕ, suc, ◌+◌, ◌/◌, ◌%◌, ◌^◌, ◌<◌, true, T, eqb, List, get_or, sym, refl, ◌∙◌, arith, eqb→eq, eq-eqb}
-use native.Mathlib.Nat.{zero-div}
-use lib.Bits.{bit_and, bit_or, bit_xor, and_shr, or_shr, xor_shr, and_mod, or_mod, xor_mod}
+use Rattle.std.proofs.Common.{◌≡◌, ℕ, suc, ◌+◌, ◌/◌, ◌%◌, ◌^◌, ◌<◌, true, T, eqb, List, get_or, sym, ◌∙◌, arith, eqb→eq, eq-eqb}
+use Rattle.std.proofs.Math.Nat.{zero-div}
+use Rattle.std.specs.Int.Bits.{bit_and, bit_or, bit_xor, and_shr, or_shr, xor_shr, and_mod, or_mod, xor_mod}
 use lib.Ieee.Bits.{is_true}
 use Rattle.layout.specs.Lists.{all_below}
 use Rattle.layout.proofs.Below.{those, those_at}
@@ -9,7 +9,7 @@ use Rattle.rules.specs.Bytes.{bar}
 use Rattle.rules.specs.Fields.{is_digit, comma}
 use Rattle.whole.specs.Word.{alike, leading, word_of}
 use Rattle.whole.proofs.ByteLaws.{digit_bounds}
-use Rattle.whole.proofs.WordLaws.{four_word}
+use Rattle.whole.proofs.WordLaws.{four_bytes}
 
 -- ",00|", the bits of it that are fixed, and what is added to each digit
 abbrev cents : ℕ
@@ -51,7 +51,7 @@ module _ (s : List ℕ) (i x : ℕ) (word : x ≡ word_of 4 s i) (bytes : (k : �
       let b = get_or s (i + 1) 0 in
       let c = get_or s (i + 2) 0 in
       let d = get_or s (i + 3) 0 in
-      let sum = word ∙ sym (four_word s i a b c d refl refl refl refl) in
+      let sum = word ∙ four_bytes s i in
       let first = bytes i in
       let second = bytes (i + 1) in
       let third = bytes (i + 2) in

@@ -7,3 +7,4 @@ pub mod PastLaws
 pub mod EmptyLaws
 pub mod TextLaws
 pub mod NumberLaws
+pub mod KindLaws

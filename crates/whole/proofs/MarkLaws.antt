@@ -1,6 +1,6 @@
 -- Marks, the top bits of a word's bytes: where the first one is that of the first byte that fails a test, they tell how many pass it.
 use Rattle.std.proofs.Common.{◌≡◌, ℕ, zero, suc, ◌+◌, ◌*◌, ◌/◌, ◌%◌, ◌<◌, Bool, true, false, List, get_or, refl, ap, arith}
-use lib.Count.{count_trailing_zeros}
+use Rattle.std.specs.Int.Count.{count_trailing_zeros}
 use Rattle.rules.proofs.TestLaws.{split}
 use Rattle.whole.specs.Word.{word_of, alike}
 

@@ -1,7 +1,6 @@
 -- A text: of it the length alone is kept and asked.
-use Rattle.std.proofs.Common.{◌≡◌, ℕ, ◌+◌, ◌-◌, ◌/◌, ◌%◌, ◌<◌, ◌≤◌, false, List, length, get_or, drop, arith, le-ltb}
-use native.Mathlib.Decide.{dec_lt}
-use borrow.Author.Tests.{not-true}
+use Rattle.std.proofs.Common.{⊎_elim, ◌≡◌, ℕ, ◌+◌, ◌-◌, ◌*◌, ◌/◌, ◌%◌, ◌<◌, ◌≤◌, List, length, get_or, drop, arith, le-ltb}
+use Rattle.std.proofs.lemmas.Bool.{not-true, cases_lt}
 use Rattle.layout.specs.Packed.{size_unit, c_class}
 use Rattle.rules.specs.Bytes.{bar}
 use Rattle.field.specs.Streaming.{longer, with_byte, fault_of, is_text_class, text_fault}
@@ -19,31 +18,37 @@ plain_counted n s i e is k l o =
     not-true (ends (get_or s k 0)) (rw on at (alike_pass is_plain n s i (k - i) (omega arith)))
 
 pub plain_join : (s : List ℕ) (i j e : ℕ) → Plain s i j → Plain s j e → Plain s i e
-plain_join s i j e p q k l o = go (dec_lt k j)
-  where
-    go : Dec (k < j) → ends (get_or s k 0) ≡ false
-    go (yes a) = p k a o
-    go (no n) = q k l (omega arith)
+plain_join s i j e p q k l o = ⊎_elim (λ before. p k before o) (λ behind. q k l behind) (cases_lt k j)
 
-module _ (kind size : ℕ) (class : kind % size_unit ≡ c_class) (sized : kind / size_unit ≡ size) where
+module _ (size : ℕ) where
+  abbrev kind : ℕ
+  kind = c_class + size_unit * size
+
+  class_is : kind % size_unit ≡ c_class
+  class_is = omega arith
+
+  size_is : kind / size_unit ≡ size
+  size_is = omega arith
+
   text_with_lem : (f : Field) (b : ℕ) → with_byte kind f b ≡ longer f f.wrong f.value
   unfolding with_byte
-  text_with_lem f b = rw class
+  text_with_lem f b = rw class_is
 
   text_clear : (f : Field) → f.length ≤ size → (due : ℕ) → fault_of kind f due ≡ 0
   unfolding fault_of is_text_class text_fault
-  text_clear f l due = rw (class, sized, le-ltb size f.length l)
+  text_clear f l due = rw (class_is, size_is, le-ltb size f.length l)
 
-  pub text_past : (s : List ℕ) (i e : ℕ) → i ≤ e → e < length s → e - i ≤ size → get_or s e 0 ≡ bar → Plain s i e
-      → Past kind s i (e + 1) (e + 1)
-  text_past s i e l h z b p =
+  pub text_past : (s : List ℕ) (i e : ℕ) {j : ℕ} → (i ≤ e) × (e < length s) × Plain s i e → e - i ≤ size
+      → (j ≡ e + 1) × (get_or s e 0 ≡ bar) → Past kind s i (e + 1) j
+  text_past s i e {j} (l, h, p) z b =
       let on : i + (e - i) ≡ e = omega arith in
       let after : ℕ → Field = λ n. record { length = n; wrong = 0; value = 0 } in
-      let last : Whole kind (after (e - i)) (drop e s) (drop (e + 1) s) = bar_last kind s e h b (text_clear (after (e - i)) z) in
+      let last : Whole kind (after (e - i)) (drop e s) (drop (e + 1) s) = bar_last kind s e h b.1 (text_clear (after (e - i)) z) in
       record {
         on = omega arith;
         near = omega arith;
         whole =
-            run kind s (drop (e + 1) s) i after (e - i) (omega arith) (λ k a. p (i + k) (omega arith) (omega arith))
-            (λ k a. text_with_lem (after k) (get_or s (i + k) 0)) (rw on last);
+            rw b.0
+            (run kind s (drop (e + 1) s) i after (e - i) (omega arith) (λ k a. p (i + k) (omega arith) (omega arith))
+            (λ k a. text_with_lem (after k) (get_or s (i + k) 0)) (rw on last));
       }

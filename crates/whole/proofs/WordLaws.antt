@@ -1,7 +1,8 @@
 -- Words: some bytes as one number, and the marks of those that are no digits, or that end a field, from a few sums and bits.
-use Rattle.std.proofs.Common.{◌≡◌, ℕ, suc, ◌+◌, ◌*◌, ◌/◌, ◌%◌, ◌^◌, ◌<◌, Bool, false, not, List, get_or, sym, refl, ◌∙◌, mod-eq_of_lt, arith, lit≤}
-use lib.Bits.{bit_and, bit_or, bit_xor, and_block, or_block, xor_block, and_lt, or_lt, xor_lt, and_mod, or_mod, and_le_r}
-use borrow.Author.Tests.{not-true}
+use Rattle.std.proofs.Common.{◌≡◌, ℕ, suc, ◌+◌, ◌*◌, ◌/◌, ◌%◌, ◌^◌, ◌<◌, Bool, false, not, List, get_or, take, drop, get_or-take, get_or-drop, sym, refl, ◌∙◌, mod-eq_of_lt, arith, lit≤, lit<}
+use Rattle.std.specs.Int.{w32, w64, from_le_bytes}
+use Rattle.std.specs.Int.Bits.{bit_and, bit_or, bit_xor, and_block, or_block, xor_block, and_lt, or_lt, xor_lt, and_mod, or_mod, and_le_r}
+use Rattle.std.proofs.lemmas.Bool.{not-true}
 use Rattle.layout.specs.Pick.{pick}
 use Rattle.layout.specs.Lists.{all_below}
 use Rattle.layout.proofs.Below.{below_equal}
@@ -12,18 +13,38 @@ use Rattle.whole.specs.Word.{word_of, each, other_marks, stop_marks}
 use Rattle.whole.proofs.ByteLaws.{digit_bounds}
 use Rattle.whole.proofs.MarkLaws.{Marks}
 
-pub four_word : (s : List ℕ) (i a b c d : ℕ) → a ≡ get_or s i 0 → b ≡ get_or s (i + 1) 0 → c ≡ get_or s (i + 2) 0 → d ≡ get_or s (i + 3) 0
-    → a + b * 256 + c * 65536 + d * 16777216 ≡ word_of 4 s i
+byte_of : (n : ℕ) (s : List ℕ) (i k : ℕ) → k < n → get_or (take n (drop i s)) k 0 ≡ get_or s (i + k) 0
+byte_of n s i k h = rw (get_or-take, get_or-drop)
+
+pub four_bytes : (s : List ℕ) (i : ℕ)
+    → word_of 4 s i ≡ get_or s i 0 + get_or s (i + 1) 0 * 256 + get_or s (i + 2) 0 * 65536 + get_or s (i + 3) 0 * 16777216
 unfolding word_of
-four_word s i a b c d p q r t =
+four_bytes s i =
     let one : i + 1 ≡ suc i = omega arith in
     let two : i + 2 ≡ suc (suc i) = omega arith in
     let three : i + 3 ≡ suc (suc (suc i)) = omega arith in
-    rw (p, q, r, t, one, two, three) (omega arith)
+    rw (one, two, three) (omega arith)
 
-pub eight_word : (s : List ℕ) (i : ℕ) → word_of 4 s i + word_of 4 s (i + 4) * 4294967296 ≡ word_of 8 s i
+two_halves : (s : List ℕ) (i : ℕ) → word_of 8 s i ≡ word_of 4 s i + word_of 4 s (i + 4) * 4294967296
 unfolding word_of
-eight_word s i = let four : i + 4 ≡ suc (suc (suc (suc i))) = omega arith in rw four (omega arith)
+two_halves s i = let four : i + 4 ≡ suc (suc (suc (suc i))) = omega arith in rw four (omega arith)
+
+-- what std makes of the bytes
+pub four_word : (s : List ℕ) (i : ℕ) → from_le_bytes w32 (take 4 (drop i s)) ≡ word_of 4 s i
+four_word s i =
+    let first : i + 0 ≡ i = omega arith in
+    rw (byte_of 4 s i 0 (lit< tt), byte_of 4 s i 1 (lit< tt), byte_of 4 s i 2 (lit< tt), byte_of 4 s i 3 (lit< tt), four_bytes s i, first)
+    (omega arith)
+
+pub eight_word : (s : List ℕ) (i : ℕ) → from_le_bytes w64 (take 8 (drop i s)) ≡ word_of 8 s i
+eight_word s i =
+    let first : i + 0 ≡ i = omega arith in
+    let fifth : i + 4 + 1 ≡ i + 5 = omega arith in
+    let sixth : i + 4 + 2 ≡ i + 6 = omega arith in
+    let seventh : i + 4 + 3 ≡ i + 7 = omega arith in
+    rw (byte_of 8 s i 0 (lit< tt), byte_of 8 s i 1 (lit< tt), byte_of 8 s i 2 (lit< tt), byte_of 8 s i 3 (lit< tt))
+    (rw (byte_of 8 s i 4 (lit< tt), byte_of 8 s i 5 (lit< tt), byte_of 8 s i 6 (lit< tt), byte_of 8 s i 7 (lit< tt))
+    (rw (two_halves s i, four_bytes s i, four_bytes s (i + 4), first, fifth, sixth, seventh) (omega arith)))
 
 -- of a sum that wraps the bits that are looked at are those of the sum
 pub and_wrapped : (k a m : ℕ) → m < 2 ^ k → bit_and (a % 2 ^ k) m ≡ bit_and a m
@@ -77,13 +98,13 @@ other_marks_lem =
     }
 
 -- the two sums as they are made: they wrap
-pub others_are : (x a b : ℕ) → a ≡ (x + 0x4646464646464646) % 2 ^ 64 → b ≡ (x + 0xcfcfcfcfcfcfcfd0) % 2 ^ 64
-    → bit_and (bit_or a b) 0x8080808080808080 ≡ other_marks 8 x
+pub others_are : (x : ℕ)
+    → bit_and (bit_or ((x + 0x4646464646464646) % 2 ^ 64) ((x + 0xcfcfcfcfcfcfcfd0) % 2 ^ 64)) 0x8080808080808080 ≡ other_marks 8 x
 unfolding other_marks each
-others_are x a b p q =
+others_are x =
     let first = x + 0x4646464646464646 in
     let second = x + 0xcfcfcfcfcfcfcfd0 in
-    let joined : bit_or a b ≡ bit_or first second % 2 ^ 64 = rw (p, q) (sym (or_mod first second 64)) in
+    let joined : bit_or (first % 2 ^ 64) (second % 2 ^ 64) ≡ bit_or first second % 2 ^ 64 = sym (or_mod first second 64) in
     rw joined (and_wrapped 64 (bit_or first second) 0x8080808080808080 (lit≤ tt))
 
 -- Bytes that end no field, in the same way.
@@ -155,13 +176,17 @@ stop_marks_lem =
       failed = λ n b x h e. stop_byte n b x h ∙ rw (stop_here_lem b h, e);
     }
 
-pub stops_are : (x a b : ℕ) → a ≡ (x + 0xdfdfdfdfdfdfdfe0) % 2 ^ 64 → b ≡ (bit_xor x 0x7c7c7c7c7c7c7c7c + 0xfefefefefefefeff) % 2 ^ 64
-    → bit_and (bit_and (bit_or a b) (bit_xor x 0x8080808080808080)) 0x8080808080808080 ≡ stop_marks 8 x
+pub stops_are : (x : ℕ)
+    → bit_and
+    (bit_and (bit_or ((x + 0xdfdfdfdfdfdfdfe0) % 2 ^ 64) ((bit_xor x 0x7c7c7c7c7c7c7c7c + 0xfefefefefefefeff) % 2 ^ 64))
+    (bit_xor x 0x8080808080808080))
+    0x8080808080808080
+    ≡ stop_marks 8 x
 unfolding stop_marks each
-stops_are x a b p q =
+stops_are x =
     let first = x + 0xdfdfdfdfdfdfdfe0 in
     let second = bit_xor x 0x7c7c7c7c7c7c7c7c + 0xfefefefefefefeff in
-    let joined : bit_or a b ≡ bit_or first second % 2 ^ 64 = rw (p, q) (sym (or_mod first second 64)) in
+    let joined : bit_or (first % 2 ^ 64) (second % 2 ^ 64) ≡ bit_or first second % 2 ^ 64 = sym (or_mod first second 64) in
     let clear = bit_xor x 0x8080808080808080 in
     let twice : bit_or first second % 2 ^ 64 % 2 ^ 64 ≡ bit_or first second % 2 ^ 64 = omega arith in
     let cut : bit_and (bit_or first second % 2 ^ 64) clear % 2 ^ 64 ≡ bit_and (bit_or first second) clear % 2 ^ 64 =

@@ -1,6 +1,6 @@
 -- A whole field at once: what it is that a field and its bar are passed.
 use Rattle.std.specs.Prelude.{◌≡◌, ℕ, zero, suc, ◌+◌, ◌-◌, ◌*◌, ◌%◌, ◌<◌, ◌≤◌, Bool, false, ◌&&◌, ◌||◌, List, ◌∷◌, drop, ◌==◌, nat_le, nat_lt, slice_index, slice_index_or}
-use Rattle.layout.specs.Packed.{size_unit, c_class, decimals_class, date_class, cnpj_class, cpf_class}
+use Rattle.layout.specs.Packed.{size_unit, c_class, date_class, cnpj_class, cpf_class}
 use Rattle.rules.specs.Bytes.{bar}
 use Rattle.rules.specs.Fields.{comma}
 use Rattle.field.specs.Streaming.{empty_field, with_byte, fault_of}
@@ -19,19 +19,6 @@ Plain s i e = (k : ℕ) → k < e → i ≤ k → ends (slice_index s k) ≡ fal
 unfoldable pub number_at : ℕ → List ℕ → ℕ → ℕ
 number_at zero s i = 0
 number_at (suc n) s i = number_at n s i * 10 + (slice_index s (i + n) - 48)
-
--- the kinds of one size that are passed
-abbrev pub amount_kind : ℕ
-amount_kind = decimals_class + size_unit * 2
-
-abbrev pub date_kind : ℕ
-date_kind = date_class + size_unit * 8
-
-abbrev pub cnpj_kind : ℕ
-cnpj_kind = cnpj_class + size_unit * 14
-
-abbrev pub cpf_kind : ℕ
-cpf_kind = cpf_class + size_unit * 11
 
 -- the kinds that can be passed: C, N with and without a size, with decimals, dates, CNPJ and CPF
 unfoldable pub is_quick : ℕ → Bool
@@ -57,6 +44,12 @@ pub record CentsPast (s : List ℕ) (c j : ℕ) : Type 0 where
   pub comma_first : slice_index_or s c 0 ≡ comma
   pub two_digits : leading 2 s (c + 1) ≡ 2
   pub bar_last : slice_index_or s (c + 3) 0 ≡ bar
+
+-- j is past n digits from i on, which are all that stand there, 16 at most, and their bar
+pub record DigitsPast (s : List ℕ) (i n j : ℕ) : Type 0 where
+  pub on : j ≡ i + n + 1
+  pub all_digits : leading 16 s i ≡ n
+  pub bar_last : slice_index s (i + n) ≡ bar
 
 -- j is past the bar of a whole field of this kind that starts at i, and at most far
 pub record Past (kind : ℕ) (s : List ℕ) (i far j : ℕ) : Type 0 where

@@ -10,17 +10,18 @@ const ABOVE_NINE: u64 = 0x4646464646464646;
 const FROM_ZERO: u64 = 0xcfcfcfcfcfcfcfd0;
 
 // 0 if the eight bytes are digits; else its first mark is that of the first byte that is none.
+#[tactic(auto, using(crate::proofs::WordLaws::others_are))]
 pub fn others(x: u64) -> u64
     ensures { result ≡ other_marks 8 x }
 {
-    (std::num::wrapping_add_u64(x, ABOVE_NINE) | std::num::wrapping_add_u64(x, FROM_ZERO))
-        & TOP_BITS
+    (x.wrapping_add(ABOVE_NINE) | x.wrapping_add(FROM_ZERO)) & TOP_BITS
 }
 
 // How many of eight bytes are digits, before the first other.
 pub fn digits_from(s: &[u8], i: usize) -> usize
     requires { i + 8 ≤ length s.now }
-    ensures { result ≡ leading 8 s.now i }
+    ensures counted { result ≡ leading 8 s.now i }
+    ensures few { result ≤ 8 }
 {
     let marks = others(eight(s, i));
     if marks == 0 {

@@ -1,95 +1,70 @@
 // A whole field, by its kind.
-ghost use Rattle.std.specs.Prelude.{◌≡◌, ◌+◌, ◌-◌, ◌<◌, ◌≤◌, true, length, slice_index};
-ghost use Rattle.rules.specs.Bytes.{bar};
+ghost use Rattle.std.specs.Prelude.{◌≡◌, ◌+◌, ◌-◌, ◌^◌, ◌<◌, ◌≤◌, true, length, IfSome};
+ghost use Rattle.layout.specs.Packed.{number_of};
 ghost use Rattle.whole.specs.Whole.{is_quick, longest, margin, Past};
 
 use crate::bar::BAR;
-use crate::numbers::{
-    amount_past, any_past, cnpj_past, cpf_past, date_past, decimal_past, exact_past,
-};
+use crate::numbers::{amount_past, any_past, checked_past, decimal_past, exact_past};
 use crate::text::text_past;
-use field::bytes::{
-    CLASS_C, CLASS_CNPJ, CLASS_CPF, CLASS_DATE, CLASS_DECIMALS, CLASS_N, CLASS_N_ANY, SIZE_UNIT,
-};
+use field::check_digits::{is_cnpj, is_cpf};
+use field::date::is_date;
+use layout::kinds::{Class, Kind};
 
 // So many bytes stand behind every place at which a field is looked for: the longest number that is passed, from there on, and CR LF.
 pub const MARGIN: usize = 21;
 
-// N with two decimals: half of a file's bytes.
-const AMOUNT: u64 = CLASS_DECIMALS + SIZE_UNIT * 2;
+// The digits of a date, of a CNPJ and of a CPF.
+const DATE_SIZE: usize = 8;
 
-const DATE: u64 = CLASS_DATE + SIZE_UNIT * 8;
+const CNPJ_SIZE: usize = 14;
 
-const CNPJ: u64 = CLASS_CNPJ + SIZE_UNIT * 14;
-
-const CPF: u64 = CLASS_CPF + SIZE_UNIT * 11;
+const CPF_SIZE: usize = 11;
 
 // Whether fields of this kind can be passed.
-fn is_quick(kind: u64) -> bool
-    ensures { result ≡ is_quick kind }
+#[tactic(auto, unfolding(crate::specs::Whole::is_quick, layout::specs::Packed::number_of))]
+fn is_quick(kind: Kind) -> bool
+    ensures { result ≡ is_quick (number_of kind) }
 {
-    let class = kind % SIZE_UNIT;
-    if class < CLASS_C {
-        return false;
-    }
-    if class <= CLASS_DATE {
-        return true;
-    }
-    CLASS_CNPJ <= class && class <= CLASS_CPF
+    matches!(
+        kind.class,
+        Class::Text
+            | Class::Digits
+            | Class::Number
+            | Class::Decimals
+            | Class::Date
+            | Class::Cnpj
+            | Class::Cpf
+    )
 }
 
-// An empty field, whose bar stands at i: it breaks no rule of these kinds.
-fn empty_past(s: &[u8], i: usize, kind: u64) -> usize
-    requires { (i + longest ≤ length s.now) × (slice_index s.now i ≡ bar) }
-    ensures { 0 < result → Past kind s.now i (i + longest) result × (is_quick kind ≡ true) }
+// An empty field, whose bar stands at i, breaks no rule of these kinds.
+fn empty_past(i: usize, kind: Kind) -> Option<usize>
+    requires { i + 1 < 2 ^ 64 }
+    ensures { IfSome result (λ past. (past ≡ i + 1) × (is_quick (number_of kind) ≡ true)) }
 {
-    if !is_quick(kind) {
-        return 0;
-    }
-    i + 1
+    is_quick(kind).then_some(i + 1)
 }
 
-// The kinds that are rarer. What is none of them is not passed.
-fn other_past(s: &[u8], i: usize, kind: u64) -> usize
-    requires { i + longest ≤ length s.now }
-    ensures { 0 < result → Past kind s.now i (i + longest) result × (is_quick kind ≡ true) }
-{
-    let class = kind % SIZE_UNIT;
-    if class == CLASS_N_ANY {
-        return any_past(s, i);
-    }
-    if class == CLASS_DECIMALS {
-        return decimal_past(s, i, (kind / SIZE_UNIT) as usize);
-    }
-    if kind == DATE {
-        return date_past(s, i);
-    }
-    if kind == CNPJ {
-        return cnpj_past(s, i);
-    }
-    if kind == CPF {
-        return cpf_past(s, i);
-    }
-    0
-}
-
-// A field of this kind that starts at i.
-pub fn field_past(s: &[u8], i: usize, kind: u64, safe: usize) -> usize
+// A field of this kind that starts at i. What is of none of these kinds is not passed.
+#[tactic(auto, using(crate::proofs::KindLaws::field_laws), unfolding(crate::specs::Whole::is_quick))]
+pub fn field_past(s: &[u8], i: usize, kind: Kind, safe: usize) -> Option<usize>
     requires { (i < safe) × (safe ≤ length s.now - margin) }
-    ensures { 0 < result → Past kind s.now i (safe + longest - 1) result × (is_quick kind ≡ true) }
+    ensures { IfSome result (λ past. Past (number_of kind) s.now i (safe + longest - 1) past × (is_quick (number_of kind) ≡ true)) }
 {
     if s[i] == BAR {
-        return empty_past(s, i, kind);
+        return empty_past(i, kind);
     }
-    if kind == AMOUNT {
-        return amount_past(s, i);
+    let size = kind.size as usize;
+    match kind.class {
+        // half of a file's bytes
+        Class::Decimals if size == 2 => amount_past(s, i),
+        Class::Text => text_past(s, i, size, safe),
+        Class::Digits => exact_past(s, i, size),
+        Class::Number => any_past(s, i),
+        Class::Decimals => decimal_past(s, i, size),
+        Class::Date if size == DATE_SIZE => checked_past(s, i, size, is_date),
+        Class::Cnpj if size == CNPJ_SIZE => checked_past(s, i, size, is_cnpj),
+        Class::Cpf if size == CPF_SIZE => checked_past(s, i, size, is_cpf),
+        _ => None,
     }
-    let class = kind % SIZE_UNIT;
-    if class == CLASS_C {
-        return text_past(s, i, (kind / SIZE_UNIT) as usize, safe);
-    }
-    if class == CLASS_N {
-        return exact_past(s, i, (kind / SIZE_UNIT) as usize);
-    }
-    other_past(s, i, kind)
 }

@@ -1,5 +1,5 @@
 // A whole field at once: it starts here, its bar is here too, and its kind finds nothing wrong. Each function gives the place past the
-// bar; or 0, and then nothing is said of the field. So nothing of a field is kept.
+// bar; or None, and then nothing is said of the field. So nothing of a field is kept.
 #![tactic(auto)]
 
 mod bar;

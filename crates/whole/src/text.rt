@@ -1,5 +1,5 @@
 // Texts: at most so many bytes.
-ghost use Rattle.std.specs.Prelude.{◌≡◌, ℕ, ◌+◌, ◌-◌, ◌/◌, ◌%◌, ◌<◌, ◌≤◌, length};
+ghost use Rattle.std.specs.Prelude.{◌≡◌, ◌+◌, ◌-◌, ◌*◌, ◌<◌, ◌≤◌, length, IfSome};
 ghost use Rattle.layout.specs.Packed.{size_unit, c_class};
 ghost use Rattle.whole.specs.Word.{stop_marks};
 ghost use Rattle.whole.specs.Whole.{margin, Plain, Past};
@@ -16,30 +16,32 @@ const BARS: u64 = 0x7c7c7c7c7c7c7c7c;
 const FROM_ONE: u64 = 0xfefefefefefefeff;
 
 // 0 if none of the eight bytes ends a field; else its first mark is that of the first byte that does.
+#[tactic(auto, using(crate::proofs::WordLaws::stops_are))]
 fn stops(x: u64) -> u64
     ensures { result ≡ stop_marks 8 x }
 {
-    let low = std::num::wrapping_add_u64(x, FROM_SPACE)
-        | std::num::wrapping_add_u64(x ^ BARS, FROM_ONE);
+    let low = x.wrapping_add(FROM_SPACE) | (x ^ BARS).wrapping_add(FROM_ONE);
     low & (x ^ TOP_BITS) & TOP_BITS
 }
 
 // Past the bar of a text from i to e.
-fn sized_past(s: &[u8], i: usize, e: usize, size: usize) -> usize
+#[tactic(auto, using(crate::proofs::TextLaws::text_past))]
+fn sized_past(s: &[u8], i: usize, e: usize, size: usize) -> Option<usize>
     requires { (i ≤ e) × (e < length s.now) × Plain s.now i e }
-    ensures { (kind : ℕ) → kind % size_unit ≡ c_class → kind / size_unit ≡ size → 0 < result → Past kind s.now i (e + 1) result }
+    ensures { IfSome result (Past (c_class + size_unit * size) s.now i (e + 1)) }
 {
     if size < e - i {
-        return 0;
+        return None;
     }
     bar_past(s, e)
 }
 
 // Past a text of at most so many bytes.
-pub fn text_past(s: &[u8], i: usize, size: usize, safe: usize) -> usize
+pub fn text_past(s: &[u8], i: usize, size: usize, safe: usize) -> Option<usize>
     requires { safe ≤ length s.now - margin }
-    ensures { (kind : ℕ) → kind % size_unit ≡ c_class → kind / size_unit ≡ size → 0 < result → Past kind s.now i (safe + 8) result }
+    ensures { IfSome result (Past (c_class + size_unit * size) s.now i (safe + 8)) }
 {
+    // By hand: over (i..safe).step_by(WORD) it took 3% more instructions a byte.
     let mut j = i;
     while j < safe {
         let marks = stops(eight(s, j));
@@ -48,5 +50,5 @@ pub fn text_past(s: &[u8], i: usize, size: usize, safe: usize) -> usize
         }
         j += WORD;
     }
-    0
+    None
 }

@@ -10,25 +10,20 @@ const HALF: usize = 4;
 
 pub const TOP_BITS: u64 = 0x8080808080808080;
 
-fn wide(b: u8) -> u64
-    ensures { (result ≡ b) × (result < 256) }
-{
-    b as u64
-}
-
-pub fn four(s: &[u8], i: usize) -> u64
+#[tactic(auto, using(crate::proofs::WordLaws::four_word))]
+pub fn four(s: &[u8], i: usize) -> u32
     requires { i + 4 ≤ length s.now }
-    ensures { (result ≡ word_of 4 s.now i) × (result < 4294967296) }
+    ensures { result ≡ word_of 4 s.now i }
 {
-    wide(s[i]) + wide(s[i + 1]) * 256 + wide(s[i + 2]) * 65536 + wide(s[i + 3]) * 16777216
+    u32::from_le_bytes(*s[i..i + HALF].first_chunk().unwrap())
 }
 
-// As two of four: so it is one load.
+#[tactic(auto, using(crate::proofs::WordLaws::eight_word))]
 pub fn eight(s: &[u8], i: usize) -> u64
     requires { i + 8 ≤ length s.now }
     ensures { result ≡ word_of 8 s.now i }
 {
-    four(s, i) + four(s, i + HALF) * 4294967296
+    u64::from_le_bytes(*s[i..i + WORD].first_chunk().unwrap())
 }
 
 // Which byte has the first mark.
