@@ -1,6 +1,6 @@
 -- What the bar finds, kind by kind, is what rules 10 to 13 and 24 say of the word; and the position of rule 10.
 use mathlib.Core.Path.{◌≡◌, ◌∙◌, refl, sym, ap}
-use mathlib.Core.Bool.{Bool, true, false, not, ◌&&◌, ◌||◌}
+use mathlib.Core.Bool.{Bool, true, false, not, ◌&&◌, ◌||◌, and-true}
 use mathlib.Core.List.{List, [], ◌∷◌, reverse}
 use Prim.Native.Nat.{ℕ, suc, ◌+◌, ◌-◌, ◌*◌, ◌/◌, ◌%◌, ◌^◌, ◌<◌, ◌≤◌, min}
 use native.Mathlib.Nat.{add-mul-mod_self_left, mod-eq_of_lt, add-mul-div_left, div-eq_of_lt}
@@ -24,7 +24,6 @@ use Rattle.field.specs.Streaming.{field_after, empty_fault, right_form, is_exact
 use Rattle.field.specs.Streaming.{number_fault, text_fault, is_text_class, fault_of}
 use Rattle.field.specs.Ruled.{ruled}
 use Rattle.rules.proofs.TestLaws.{split, both, and_left}
-use Rattle.field.proofs.Picks.{and_first}
 use Rattle.field.proofs.LengthLaws.{length_is}
 use Rattle.field.proofs.DigitLaws.{digits_right, digits_position, digits_value, value_below, capped_is}
 use Rattle.field.proofs.CheckDigitLaws.{digits_are}
@@ -119,7 +118,7 @@ module _ (kind c n : ℕ) (on : (f : Field) (b : ℕ) → with_byte kind f b ≡
   unfolding right_form form_of
   digits_form w =
       let right = eqb (field_after kind w).wrong 0 in
-      rw other (sym (and_first right right true refl refl) ∙ digits_right kind on (form_of N-) (λ w. refl) w)
+      rw other (and-true right ∙ digits_right kind on (form_of N-) (λ w. refl) w)
 
   digits_bar : (due b : ℕ) (w : List ℕ) → number_fault c n (field_after kind (b ∷ w)) due
       ≡ pick (all_digits (b ∷ w)) (pick (right_size c n (suc (length w))) (content_fault c (min cap (value (b ∷ w))) due) 11) 10

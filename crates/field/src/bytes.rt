@@ -6,7 +6,12 @@ ghost use Rattle.field.specs.Streaming.{matches, text_with, comma_fits, decimal_
 
 use layout::kinds::{Class, Kind};
 
-const COMMA: u8 = 44;
+const COMMA: u8 = b',';
+
+// A code's value is its last four bytes: three of them stay as one more comes.
+const THREE_BYTES: u64 = 16_777_216;
+
+const ONE_BYTE: u64 = 256;
 
 // Of a number with decimals the value is 0 before the comma, and then this, and one more for each decimal still to come.
 pub const NONE_TO_COME: u64 = 1;
@@ -76,12 +81,11 @@ impl Field {
         self.length += 1;
     }
 
-    // A code's value is its last four bytes.
     fn add_to_code(&mut self, b: u8)
         requires { FieldFit self.old }
         ensures { self.new ≡ code_with self.old b }
     {
-        self.value = self.value % 16777216 * 256 + b as u64;
+        self.value = self.value % THREE_BYTES * ONE_BYTE + b as u64;
         self.add(true);
     }
 
