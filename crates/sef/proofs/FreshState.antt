@@ -15,7 +15,7 @@ use Rattle.rules.proofs.OccurrenceLaws.{stamps, occurrences, occurred}
 use Rattle.rules.proofs.CleanLaws.{clean_start}
 use Rattle.field.specs.Streaming.{field_after}
 use Rattle.state.specs.Piece.{open_of}
-use Rattle.sef.specs.Calls.{fresh}
+use Rattle.state.specs.Piece.{fresh}
 use Rattle.line.proofs.HotOf.{says, last_says}
 use Rattle.line.proofs.StatementLaws.{stated_of_row}
 use Rattle.line.proofs.PairLaws.{pairs_of}

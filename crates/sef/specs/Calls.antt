@@ -1,11 +1,8 @@
 -- What each call gives back, at every state: the exact answer, the next state, and what a lent buffer then holds.
-use Rattle.std.specs.Prelude.{true, false, List, ◌++◌, ℕ, suc, ◌+◌, eqb, ltb, length, drop, replicate}
+use Rattle.std.specs.Prelude.{true, List, ◌++◌, ℕ, ◌+◌, eqb, ltb, length, drop}
 use Rattle.layout.specs.Pick.{pick}
-use Rattle.layout.specs.Rows.{row_count, none, row9999, blocks}
-use Rattle.field.specs.Streaming.{empty_field}
-use Rattle.line.specs.Machine.{code_kind, code_only, pair_count}
+use Rattle.layout.specs.Rows.{row_count, row9999}
 use Rattle.state.specs.Answers.{numbers}
-use Rattle.line.specs.Tally.{tally_of}
 use Rattle.state.specs.Piece.{state_of, kept_of, run_of}
 use Rattle.state.specs.Ranges.{ranged_of}
 use Rattle.state.specs.declared.State.{State}
@@ -17,29 +14,6 @@ use Rattle.state.specs.declared.answers.FinalAnswer.{FinalAnswer}
 use Rattle.state.specs.declared.answers.FinalAnswer.TheVariants as Final
 use Rattle.state.specs.declared.answers.ReportAnswer.{ReportAnswer}
 use Rattle.state.specs.declared.answers.ReportAnswer.TheVariants as Report
-
--- The fresh state.
-unfoldable pub fresh : State
-fresh =
-    state_of
-    (record {
-      lines = 0;
-      bytes = 0;
-      last = none;
-      since = 0;
-      says = 0;
-      bars = 0;
-      row = none;
-      fields = code_only;
-      kind = code_kind;
-      field = empty_field;
-    })
-    0
-    0
-    0
-    false
-    (tally_of (replicate row_count 0) (replicate row_count 0) (replicate row_count 0) (replicate blocks 0) (replicate (suc row_count) 0)
-    (replicate pair_count 0))
 
 abbrev pub unchanged : Answer → State → Checked
 unchanged a s = record { answer = a; state = s }

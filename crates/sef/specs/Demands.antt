@@ -15,7 +15,8 @@ use Rattle.rules.specs.Groups.{are_neighbours, exchanged}
 use Rattle.rules.specs.Totals.{closings_state, stated_by, lines_of, last_line, rows_of, block_count, IsAmong, IsThere}
 use Rattle.line.specs.Machine.{most_bars}
 use Rattle.state.specs.Answers.{numbers, numbers_of, said, finally_said, report_said}
-use Rattle.sef.specs.Calls.{fresh, check_of}
+use Rattle.state.specs.Piece.{fresh}
+use Rattle.sef.specs.Calls.{check_of}
 use Rattle.rules.specs.Numbers.{is_rule}
 use Rattle.state.specs.Ranges.{position_ranged, ranged_of}
 use Rattle.rules.specs.Bytes.{AllBytes}

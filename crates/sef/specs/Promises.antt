@@ -8,7 +8,8 @@ use Rattle.rules.specs.Totals.{sum, block_count}
 use Rattle.rules.specs.Verdict.{standing, verdict_of, final_of, counts_of, totals_of}
 use Rattle.state.specs.Answers.{numbers, numbers_of, said, finally_said, report_said}
 use Rattle.rules.specs.Bytes.{AllBytes}
-use Rattle.sef.specs.Calls.{fresh, check_of, finish_of, report_of, reported_of}
+use Rattle.state.specs.Piece.{fresh}
+use Rattle.sef.specs.Calls.{check_of, finish_of, report_of, reported_of}
 use Rattle.state.specs.Ranges.{ranged_of}
 use Rattle.state.specs.declared.State.{State}
 use Rattle.state.specs.declared.answers.Checked.{Checked}

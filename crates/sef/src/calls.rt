@@ -1,20 +1,16 @@
 // The four public calls.
 ghost use Rattle.std.specs.Prelude.{◌≡◌};
-ghost use Rattle.sef.specs.Calls.{fresh, final_answer_of};
+ghost use Rattle.state.specs.Piece.{fresh};
+ghost use Rattle.sef.specs.Calls.{final_answer_of};
 ghost use Rattle.sef.specs.Promises.{Checks, Finishes, Reports};
 ghost use Rattle.line.specs.Machine.{HotFit};
 
 use crate::fill::fill;
-use layout::blocks::BLOCKS;
-use layout::rows::{ENTRIES, ROWS};
-use line::hot::{CODE_KIND, CODE_ONLY, Hot};
+use layout::rows::ROWS;
 use line::order::ROW_9999;
-use line::periods::PAIRS;
-use state::outcome::kept;
 use run::judge::run;
 use state::answers::{Answer, Checked, FinalAnswer, Finished, Numbers, ReportAnswer};
-use state::ranges::ranged;
-use state::{State, Tally};
+use state::State;
 
 // Rule 14: finish is asked before 9999's LF has come.
 const CUT_SHORT: u64 = 14;
@@ -23,39 +19,14 @@ const CUT_SHORT: u64 = 14;
 pub fn start() -> State
     ensures { result ≡ fresh }
 {
-    State {
-        hot: Hot {
-            lines: 0,
-            bytes: 0,
-            last: ROWS,
-            since: 0,
-            says: 0,
-            bars: 0,
-            row: ROWS,
-            fields: CODE_ONLY,
-            kind: CODE_KIND,
-            field: field::bytes::start(),
-        },
-        rule: 0,
-        field: 0,
-        position: 0,
-        finished: false,
-        tally: Tally {
-            counts: [0; ROWS],
-            stamps: [0; ROWS],
-            occurrences: [0; ROWS],
-            totals: [0; BLOCKS],
-            stated: [0; ENTRIES],
-            pairs: [0; PAIRS],
-        },
-    }
+    State::new()
 }
 
 // A piece of the file: the answer after it, with the next state.
 pub fn check(s: State, piece: &[u8]) -> Checked
     ensures { Checks s piece.now result }
 {
-    if !ranged(s) {
+    if !s.is_ranged() {
         return Checked {
             answer: Answer::Damaged,
             state: s,
@@ -69,7 +40,7 @@ pub fn check(s: State, piece: &[u8]) -> Checked
     }
     if s.rule != 0 {
         return Checked {
-            answer: Answer::Refused(kept(s)),
+            answer: Answer::Refused(s.kept()),
             state: s,
         };
     }
@@ -82,7 +53,7 @@ fn final_answer(s: State) -> FinalAnswer
     ensures { result ≡ final_answer_of s }
 {
     if s.rule != 0 {
-        return FinalAnswer::Refused(kept(s));
+        return FinalAnswer::Refused(s.kept());
     }
     let h = s.hot;
     if h.last == ROW_9999 {
@@ -102,7 +73,7 @@ fn final_answer(s: State) -> FinalAnswer
 pub fn finish(s: State) -> Finished
     ensures { Finishes s result }
 {
-    if !ranged(s) {
+    if !s.is_ranged() {
         return Finished {
             answer: FinalAnswer::Damaged,
             state: s,
@@ -126,7 +97,7 @@ pub fn finish(s: State) -> Finished
 pub fn report(s: State, counts: &mut [u64]) -> ReportAnswer
     ensures { Reports s counts.old result counts.new }
 {
-    if !ranged(s) {
+    if !s.is_ranged() {
         return ReportAnswer::Damaged;
     }
     if counts.len() < ROWS {

@@ -1,3 +1,4 @@
+pub mod ListLaws
 pub mod RangeLaws
 pub mod SumLaws
 pub mod PartLaws

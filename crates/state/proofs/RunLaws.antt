@@ -13,7 +13,7 @@ use Rattle.line.specs.declared.hot.Hot.{Hot}
 use Rattle.line.specs.Machine.{Step, Next, Broken}
 use Rattle.line.specs.declared.tally.Tally.{Tally}
 use Rattle.state.specs.declared.answers.Checked.{Checked}
-use Rattle.line.proofs.StepRanges.{Leads, goes, stops, step_leads}
+use Rattle.line.proofs.StepRanges.{Leads, stops, step_leads}
 use Rattle.line.proofs.HeldLaws.{held_next}
 
 -- What a piece comes to: nothing is refused so far, or a byte has broken a rule; all within the ranges.

@@ -8,6 +8,8 @@ use Rattle.state.specs.declared.answers.FinalAnswer.{FinalAnswer}
 use Rattle.state.specs.declared.answers.FinalAnswer.TheVariants as Final
 use Rattle.state.specs.declared.answers.ReportAnswer.{ReportAnswer}
 use Rattle.state.specs.declared.answers.ReportAnswer.TheVariants as Report
+use Rattle.state.specs.declared.answers.CallRefusal.{CallRefusal}
+use Rattle.state.specs.declared.answers.CallRefusal.TheVariants as Call
 
 -- "`refusal` is the number, 0 if none; `line` and `field` are the place, 0 if accepted; `lines` is lines ended; `bytes` is bytes
 -- judged"; 02, request e: "Every answer then carries a position, 0 for all but 2 and 10"
@@ -49,3 +51,9 @@ unfoldable pub report_said : ReportAnswer → Numbers
 report_said (Report.Written l n) = numbers 0 0 0 0 l n
 report_said Report.NoRoom = numbers 18 0 0 0 0 0
 report_said Report.Damaged = numbers 19 0 0 0 0 0
+
+-- the numbers of a call that is refused, and no line of the file
+abbrev pub call_number : CallRefusal → ℕ
+call_number Call.Late = 17
+call_number Call.NoRoom = 18
+call_number Call.Damaged = 19

@@ -1,19 +1,47 @@
--- A piece, byte by byte: what its bytes come to, at every state.
-use Rattle.std.specs.Prelude.{Bool, false, List, [], ◌∷◌, ℕ, ◌+◌, ◌<◌, get_or}
-use Rattle.line.specs.Machine.{judged_with, position_of}
-use Rattle.line.specs.Tally.{tally_with, on_step, step_with}
+-- The fresh state; and a piece, byte by byte: what its bytes come to, at every state.
+use Rattle.std.specs.Prelude.{Bool, false, List, [], ◌∷◌, ℕ, ◌+◌}
+use Rattle.layout.specs.Rows.{none}
+use Rattle.field.specs.Streaming.{empty_field}
+use Rattle.line.specs.Machine.{code_kind, code_only, judged_with, position_of}
+use Rattle.line.specs.Tally.{fresh_tally, tally_with, on_step, step_with}
 use Rattle.line.specs.declared.hot.Hot.{Hot}
 use Rattle.line.specs.declared.tally.Tally.{Tally}
 use Rattle.state.specs.Answers.{numbers}
 use Rattle.state.specs.declared.State.{State}
 use Rattle.state.specs.declared.answers.Numbers.{Numbers}
 use Rattle.state.specs.declared.answers.Checked.{Checked}
+use Rattle.state.specs.declared.answers.Answer.{Answer}
 use Rattle.state.specs.declared.answers.Answer.TheVariants as Piece
 
--- A piece, byte by byte.
 abbrev pub state_of : Hot → ℕ → ℕ → ℕ → Bool → Tally → State
 state_of h rule field position finished t =
     record { hot = h; rule = rule; field = field; position = position; finished = finished; tally = t }
+
+-- The fresh state.
+unfoldable pub fresh : State
+fresh =
+    state_of
+    (record {
+      lines = 0;
+      bytes = 0;
+      last = none;
+      since = 0;
+      says = 0;
+      bars = 0;
+      row = none;
+      fields = code_only;
+      kind = code_kind;
+      field = empty_field;
+    })
+    0
+    0
+    0
+    false
+    fresh_tally
+
+-- A piece, byte by byte: the answer and the state that it leaves.
+abbrev pub checked : Answer → State → Checked
+checked a s = record { answer = a; state = s }
 
 -- the refusal that a state keeps
 unfoldable pub kept_of : State → Numbers

@@ -1,5 +1,5 @@
 -- Every stored number within its range (docs/STATE.md): what refusal 19 asks.
-use Rattle.std.specs.Prelude.{◌≡◌, Bool, ◌&&◌, ◌||◌, List, ℕ, suc, ◌+◌, ◌≤◌, ◌<◌, eqb, leb, ltb, length, get_or}
+use Rattle.std.specs.Prelude.{Bool, ◌&&◌, ◌||◌, List, ℕ, suc, ◌+◌, eqb, leb, ltb, length, get_or}
 use Rattle.layout.specs.Pick.{pick}
 use Rattle.layout.specs.Lists.{all_below}
 use Rattle.layout.specs.Rows.{row_count, most_fields, blocks}
@@ -8,7 +8,7 @@ use Rattle.rules.specs.Rules.{byte_limit}
 use Rattle.rules.specs.Numbers.{is_rule}
 use Rattle.rules.specs.Totals.{sum, block_count}
 use Rattle.field.specs.Streaming.{cap}
-use Rattle.line.specs.Machine.{Below, HotFit, most_bars, untrue, most_says}
+use Rattle.line.specs.Machine.{most_bars, untrue, most_says}
 use Rattle.line.specs.declared.hot.Hot.{Hot}
 use Rattle.state.specs.declared.State.{State}
 use Rattle.line.specs.declared.tally.Tally.{Tally}

@@ -1,10 +1,7 @@
-use Prim.Native.Nat.{◌-◌}
-use lib.ListN.{length}
-use Rattle.state.proofs.SumLaws.{Taking}
+use Rattle.std.proofs.Common.{◌≡◌, ◌+◌, drop}
+use Rattle.rules.specs.Totals.{sum}
 use Rattle.state.proofs.ranges.adds_up.Given as goal
 
-abbrev pub invariant-loop-i : goal.invariant-loop-i
-invariant-loop-i l = Taking l.numbers l.total l.left l.i
-
-abbrev pub decreases-loop-i : goal.decreases-loop-i
-decreases-loop-i l = length l.numbers - l.i
+-- what is left of the total still has the numbers from here on to meet
+abbrev pub invariant-loop-n : goal.invariant-loop-n
+invariant-loop-n l = sum l.numbers + l.left ≡ l.total + sum (drop l.n-index l.numbers)
