@@ -60,6 +60,10 @@ fresh_tally =
     tally_of (replicate row_count 0) (replicate row_count 0) (replicate row_count 0) (replicate blocks 0) (replicate (suc row_count) 0)
     (replicate pair_count 0)
 
+-- one more line of any row can be counted: no number is above those of a file's bytes
+abbrev pub Countable : Tally → Type 0
+Countable t = Below (byte_limit + 1) t.counts × Below (byte_limit + 1) t.occurrences × Below (byte_limit + 1) t.totals
+
 abbrev pub tally_with : Hot → ℕ → ℕ → Tally → Tally
 tally_with h n b t =
     tally_of (counts_with h b t.counts) (stamps_with h n b t.stamps) (occurrences_with h b t.stamps t.occurrences)

@@ -8,7 +8,7 @@ ghost use Rattle.rules.specs.Numbers.{rule_number, broken};
 ghost use Rattle.rules.specs.Rules.{byte_limit};
 ghost use Rattle.line.specs.Machine.{Below, Broken, step_said, word_row, code_bar_of, due_of, states_of, says_of, asked_of};
 ghost use Rattle.line.specs.Machine.{found_of, field_bar_of, control_of, past_of, start_of, position_of};
-ghost use Rattle.line.specs.Tally.{step_with, kept_after};
+ghost use Rattle.line.specs.Tally.{Countable, step_with, kept_after};
 
 use crate::hot::CODE;
 use crate::line::Line;
@@ -250,7 +250,7 @@ impl Line {
     #[tactic(auto, unfolding(crate::specs::Machine::past_of), using(crate::proofs::KeptLaws::kept_other))]
     fn past(&mut self, tally: &mut Tally, b: u8) -> Result<(), Refusal>
         requires room { self.old.hot.bytes < byte_limit }
-        requires below { Below (byte_limit + 1) tally.old.counts × Below (byte_limit + 1) tally.old.occurrences × Below (byte_limit + 1) tally.old.totals }
+        requires below { Countable tally.old }
         ensures step { step_said result self.new.hot ≡ past_of self.old.hot b }
         ensures kept { tally.new ≡ kept_after (past_of self.old.hot b) self.old.hot b tally.old }
         ensures refused { OnErr result (self.new ≡ self.old) }
@@ -293,7 +293,7 @@ impl Line {
     // One byte, and what is noted of it. One that breaks a rule changes nothing.
     #[tactic(auto, unfolding(crate::specs::Machine::step_of, crate::specs::Machine::in_field_of, crate::specs::Machine::bar_of), using(crate::proofs::KeptLaws::kept_other, crate::proofs::KeptLaws::kept_start))]
     pub fn judge(&mut self, tally: &mut Tally, b: u8) -> Result<(), Refusal>
-        requires { Below (byte_limit + 1) tally.old.counts × Below (byte_limit + 1) tally.old.occurrences × Below (byte_limit + 1) tally.old.totals }
+        requires { Countable tally.old }
         ensures step { step_said result self.new.hot ≡ step_with self.old.hot tally.old b }
         ensures kept { tally.new ≡ kept_after (step_with self.old.hot tally.old b) self.old.hot b tally.old }
         ensures refused { OnErr result (self.new ≡ self.old) }

@@ -6,7 +6,7 @@ ghost use Rattle.rules.specs.Numbers.{broken};
 ghost use Rattle.rules.specs.Rules.{byte_limit};
 ghost use Rattle.line.specs.Machine.{Below, entry_of, used_of, room_of, occurs_of, holds_of, all_hold_of};
 ghost use Rattle.line.specs.Machine.{pair_count, pairs_kept, none_is, repeated_of, crowded_of, pair_rule_of};
-ghost use Rattle.line.specs.Tally.{fresh_tally, counted_tally, raised_tally, paired_tally, stated_tally, tally_with};
+ghost use Rattle.line.specs.Tally.{Countable, fresh_tally, counted_tally, raised_tally, paired_tally, stated_tally, tally_with};
 
 use crate::line::Line;
 use crate::order::{ROW_9900, ROW_9999};
@@ -22,6 +22,8 @@ use rules::Rule;
 // For each row: its lines ended, the number of its last line, and how many stood under one parent line then. For each block, in the
 // order of blocks: its lines ended. For each row, and for no row: 0, or one more than what 9900 lines state of it. For each row that
 // has a period: the pairs of dates of its lines, in their order.
+// Arrays side by side, and their bounds in clauses: a caller keeps them, and `check` promises its exact answer (`check_of`) whatever
+// stands there.
 #[derive(Clone, Copy)]
 pub struct Tally {
     pub counts: [u64; ROWS],
@@ -203,7 +205,7 @@ impl Tally {
     // The line at hand ends.
     #[tactic(auto, unfolding(crate::specs::Tally::counts_with, crate::specs::Tally::stamps_with, crate::specs::Tally::occurrences_with, crate::specs::Tally::totals_with, crate::specs::Tally::pairs_with,))]
     pub fn note(&mut self, line: &Line)
-        requires { Below (byte_limit + 1) self.old.counts × Below (byte_limit + 1) self.old.occurrences × Below (byte_limit + 1) self.old.totals }
+        requires { Countable self.old }
         ensures { self.new ≡ tally_with line.now.hot (line.now.hot.lines + 1) LF self.old }
     {
         self.pair(line);
