@@ -1,24 +1,23 @@
 -- Over whole lines and fields: what leads on from a place keeps what `Along` says, whether a head, fields or a line's end.
 use mathlib.Core.Path.{◌≡◌, refl}
-use mathlib.Core.List.{List, []}
+use mathlib.Core.List.{List}
 use Prim.Native.Nat.{ℕ, ◌+◌, ◌-◌, ◌≤◌, ◌<◌}
 use native.Mathlib.Omega.{arith}
 use native.Mathlib.Nat.{min-le_left, min-le_right}
 use lib.Dec.{eqb}
 use lib.ListN.{length}
-use Rattle.layout.specs.Rows.{row_count, none, block}
+use Rattle.layout.specs.Rows.{row_count, none}
 use Rattle.rules.specs.Rules.{byte_limit}
 use Rattle.rules.proofs.TestLaws.{split}
 use Rattle.whole.specs.Whole.{longest, margin}
-use Rattle.line.specs.Machine.{HotFit, entry_of, used_of}
+use Rattle.line.specs.Machine.{HotFit}
 use Rattle.line.specs.declared.hot.Hot.{Hot}
 use Rattle.line.specs.Tally.{Held}
 use Rattle.line.specs.declared.tally.Tally.{Tally}
 use Rattle.run.specs.declared.place.Place.{Place}
-use Rattle.line.specs.Tally.{set_of, raised_of, tally_of}
 use Rattle.rules.specs.Bytes.{AllBytes}
 use Rattle.run.specs.Places.{hot_at, Placed, place_of, Begins, PassesTo, Headed, Fielded, EndsHere}
-use Rattle.run.specs.Places.{next_line, safe_of, Along, Onward}
+use Rattle.run.specs.Places.{next_line, counted_with, safe_of, Along, Onward}
 use Rattle.run.specs.Places.Passes.{here}
 use Rattle.run.proofs.PassLaws.{bytes_from, passes_join, passes_held}
 use Rattle.run.proofs.PlaceLaws.{silent_9999, place_bytes}
@@ -49,36 +48,33 @@ place_fit p bytes f =
 pub place_within : (p : Place) (bytes : ℕ) {t : Tally} → Held (hot_at p bytes) t → bytes ≤ byte_limit
 place_within p bytes d = omega (arith, d.within_limit, place_bytes p bytes)
 
-module _ {s : List ℕ} {before : ℕ} {p : Place} {cs ss os bs : List ℕ} {q : Place} {cs₁ ss₁ os₁ bs₁ : List ℕ} (all : AllBytes s)
-    (a : Along s before p cs ss os bs q cs₁ ss₁ os₁ bs₁) where
-  along_on : {r : Place} {cs₂ ss₂ os₂ bs₂ : List ℕ} → Placed r → q.at ≤ r.at → r.at ≤ length s
-      → ((ds ps : List ℕ) → PassesTo s before q (tally_of cs₁ ss₁ os₁ bs₁ ds ps) r (tally_of cs₂ ss₂ os₂ bs₂ ds ps))
-      → Along s before p cs ss os bs r cs₂ ss₂ os₂ bs₂
+module _ {s : List ℕ} {before : ℕ} {p : Place} {t : Tally} {q : Place} {u : Tally} (all : AllBytes s)
+    (a : Along s before p t q u) where
+  along_on : {r : Place} {v : Tally} → Placed r → q.at ≤ r.at → r.at ≤ length s → PassesTo s before q u r v
+      → Along s before p t r v
   along_on placed on within passes =
       record {
         placed = placed;
         on = omega (arith, a.on);
         within = within;
-        held = passes_held (passes [] []) (bytes_from s all q.at) a.held;
-        passes = λ ds ps. passes_join (a.passes ds ps) (passes ds ps);
+        held = passes_held passes (bytes_from s all q.at) a.held;
+        passes = passes_join a.passes passes;
       }
 
-  pub along_head : {r : Place} → q.at < safe_of before (length s) → Headed s ss₁ os₁ q r
-      → Along s before p cs ss os bs r cs₁ ss₁ os₁ bs₁
+  pub along_head : {r : Place} → q.at < safe_of before (length s) → Headed s u q r → Along s before p t r u
   along_head l h =
       let fits = safe_length before (length s) in
       let limit = safe_limit before (length s) in
-      along_on h.placed h.on (omega (arith, h.near)) (λ ds ps. h.passes before _ (omega arith) refl refl)
+      along_on h.placed h.on (omega (arith, h.near)) (h.passes before (omega arith))
 
   pub along_fields : {r : Place} → 0 < safe_of before (length s) → Fielded s (safe_of before (length s)) q r
-      → Along s before p cs ss os bs r cs₁ ss₁ os₁ bs₁
+      → Along s before p t r u
   along_fields l f =
       let fits = safe_length before (length s) in
-      along_on f.placed f.on (omega (arith, f.near)) (λ ds ps. f.passes before _ (safe_limit before (length s)))
+      along_on f.placed f.on (omega (arith, f.near)) (f.passes before _ (safe_limit before (length s)))
 
   pub along_end : 0 < safe_of before (length s) → q.at < safe_of before (length s) + longest → q.row < row_count → EndsHere s q
-      → Along s before p cs ss os bs (next_line q) (set_of cs₁ q.row (entry_of cs₁ q.row + 1))
-      (set_of ss₁ q.row (q.lines + 1)) (set_of os₁ q.row (used_of ss₁ os₁ q.row + 1)) (raised_of bs₁ (block q.row))
+      → Along s before p t (next_line q) (counted_with u q.row (q.lines + 1))
   along_end l near row ends =
       let fits = safe_length before (length s) in
       let limit = safe_limit before (length s) in
@@ -93,31 +89,30 @@ module _ {s : List ℕ} {before : ℕ} {p : Place} {cs ss os bs : List ℕ} {q :
       }
       (omega arith)
       (omega arith)
-      (λ ds ps. end_passes s q row silent ends (omega arith) before (omega arith) cs₁ ss₁ os₁ bs₁ ds ps)
+      (end_passes s q row silent ends (omega arith) before (omega arith) u)
 
 -- The whole way from a state: it starts at the state's place, if it is at one, and ends at a place's state.
-module _ (s : List ℕ) (i : ℕ) (h : Hot) (within : i ≤ length s) (known : i ≤ h.bytes) (cs ss os bs : List ℕ) where
-  pub onward_none : Onward s (h.bytes - i) i h cs ss os bs h cs ss os bs
+module _ (s : List ℕ) (i : ℕ) (h : Hot) (within : i ≤ length s) (known : i ≤ h.bytes) (t : Tally) where
+  pub onward_none : Onward s (h.bytes - i) i h t h t
   onward_none =
       let here_again : h.bytes - (h.bytes - i) ≡ i = omega arith in
-      record { on = omega arith; within = omega arith; passes = λ ds ps. rw here_again here }
+      record { on = omega arith; within = omega arith; passes = rw here_again here }
 
   module _ (b : Begins h) where
     here_is : hot_at (place_of h i) (h.bytes - i + i) ≡ h
     here_is = let bytes : h.bytes - i + i ≡ h.bytes = omega arith in rw bytes (b.same i)
 
-    pub along_start : Held h (tally_of cs ss os bs [] []) → Along s (h.bytes - i) (place_of h i) cs ss os bs (place_of h i) cs ss os bs
+    pub along_start : Held h t → Along s (h.bytes - i) (place_of h i) t (place_of h i) t
     along_start d =
-        record { placed = b.placed i; on = omega arith; within = within; held = rw here_is d; passes = λ ds ps. here }
+        record { placed = b.placed i; on = omega arith; within = within; held = rw here_is d; passes = here }
 
-    pub onward_along : {r : Place} {cs₁ ss₁ os₁ bs₁ : List ℕ}
-        → Along s (h.bytes - i) (place_of h i) cs ss os bs r cs₁ ss₁ os₁ bs₁
-        → Onward s (h.bytes - i) i h cs ss os bs (hot_at r (h.bytes - i + r.at)) cs₁ ss₁ os₁ bs₁
+    pub onward_along : {r : Place} {u : Tally} → Along s (h.bytes - i) (place_of h i) t r u
+        → Onward s (h.bytes - i) i h t (hot_at r (h.bytes - i + r.at)) u
     onward_along {r} a =
         let bytes = place_bytes r (h.bytes - i + r.at) in
         let there : (hot_at r (h.bytes - i + r.at)).bytes - (h.bytes - i) ≡ r.at = omega (arith, bytes) in
         record {
           on = omega (arith, bytes, a.on);
           within = omega (arith, bytes, a.within);
-          passes = λ ds ps. rw there (rw here_is at (a.passes ds ps));
+          passes = rw there (rw here_is at a.passes);
         }

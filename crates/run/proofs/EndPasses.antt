@@ -20,7 +20,7 @@ use Rattle.run.specs.declared.place.Place.{Place}
 use Rattle.line.specs.Tally.{set_of, counts_with, stamps_with, occurrences_with, raised_of, totals_with, stated_with, paired_of, pairs_with}
 use Rattle.line.specs.Tally.{tally_of, tally_with}
 use Rattle.layout.specs.Silent.{is_silent}
-use Rattle.run.specs.Places.{Passes, line_start, field_start, PassesTo, EndsHere, next_line}
+use Rattle.run.specs.Places.{Passes, line_start, field_start, PassesTo, EndsHere, next_line, counted_with}
 use Rattle.run.specs.Places.Passes.{here, byte}
 use Rattle.run.proofs.PassLaws.{passes_byte}
 use Rattle.run.proofs.PlaceLaws.{silent_period, silent_9900, silent_closing, at_line, at_field}
@@ -44,38 +44,31 @@ module _ (h : Hot) (ss os : List ℕ) (a : Asked) (past : h.fields < h.bars) (ro
   unfolding past_of
   lf_step l = past_step LF ∙ rw (ne_eqb h.field.length 0 (λ e. omega arith))
 
--- the tally after a line of row r, the file's line n
-abbrev pub counted_with : List ℕ → List ℕ → List ℕ → List ℕ → List ℕ → List ℕ → ℕ → ℕ → Tally
-counted_with cs ss os bs ds ps r n =
-    tally_of (set_of cs r (entry_of cs r + 1)) (set_of ss r n) (set_of os r (used_of ss os r + 1)) (raised_of bs (block r)) ds ps
-
-silent_tally : (h : Hot) (n : ℕ) (cs ss os bs ds ps : List ℕ) → is_silent h.row ≡ true
-    → tally_with h n LF (tally_of cs ss os bs ds ps) ≡ counted_with cs ss os bs ds ps h.row n
+silent_tally : (h : Hot) (n : ℕ) (t : Tally) → is_silent h.row ≡ true → tally_with h n LF t ≡ counted_with t h.row n
 unfolding counts_with stamps_with occurrences_with totals_with stated_with pairs_with paired_of
-silent_tally h n cs ss os bs ds ps e = rw (silent_period h.row e, silent_9900 h.row e)
+silent_tally h n t e = rw (silent_period h.row e, silent_9900 h.row e)
 
 module _ (s : List ℕ) (p : Place) (row : p.row < row_count) (silent : is_silent p.row ≡ true) where
   pub end_passes : EndsHere s p → p.at + 2 ≤ length s
-      → (before : ℕ) → before + p.at + 2 ≤ byte_limit → (cs ss os bs ds ps : List ℕ)
-      → PassesTo s before p (tally_of cs ss os bs ds ps) (next_line p) (counted_with cs ss os bs ds ps p.row (p.lines + 1))
+      → (before : ℕ) → before + p.at + 2 ≤ byte_limit → (t : Tally)
+      → PassesTo s before p t (next_line p) (counted_with t p.row (p.lines + 1))
   unfolding since_of
-  end_passes ends within before room cs ss os bs ds ps =
+  end_passes ends within before room t =
       let past = ends.past in
-      let t = tally_of cs ss os bs ds ps in
       let h = field_start p (before + p.at) in
       let g = grown_of h CR in
       let e = line_start (next_line p) (before + (p.at + 2)) in
       let rest = drop (p.at + 2) s in
       let bytes : before + p.at + 1 + 1 ≡ before + (p.at + 2) = omega arith in
       let two : suc (p.at + 1) ≡ p.at + 2 = omega arith in
-      let first : step_of h ss os _ CR ≡ Next g = cr_step h ss os _ (omega arith) (omega arith) refl in
+      let first : step_of h t.stamps t.occurrences _ CR ≡ Next g = cr_step h t.stamps t.occurrences _ (omega arith) (omega arith) refl in
       let ended : ended_of g ≡ e = rw (silent_closing p.row silent, bytes) in
-      let second : step_of g ss os _ LF ≡ Next e =
-      lf_step g ss os _ (omega arith) (omega arith) (omega (arith, one_longer h.kind h.field CR)) ∙ rw ended in
-      let led : Passes h t (CR ∷ LF ∷ rest) e (counted_with cs ss os bs ds ps p.row (p.lines + 1)) rest =
+      let second : step_of g t.stamps t.occurrences _ LF ≡ Next e =
+      lf_step g t.stamps t.occurrences _ (omega arith) (omega arith) (omega (arith, one_longer h.kind h.field CR)) ∙ rw ended in
+      let led : Passes h t (CR ∷ LF ∷ rest) e (counted_with t p.row (p.lines + 1)) rest =
       passes_byte h g t CR refl first
-      (byte {h = g} {n = e} {h' = e} {t = t} {t' = counted_with cs ss os bs ds ps p.row (p.lines + 1)} {b = LF} {xs = rest} {ys = rest}
-      second (rw (silent_tally g e.lines cs ss os bs ds ps silent) here)) in
+      (byte {h = g} {n = e} {h' = e} {t = t} {t' = counted_with t p.row (p.lines + 1)} {b = LF} {xs = rest} {ys = rest}
+      second (rw (silent_tally g e.lines t silent) here)) in
       rw (
         at_field p (before + p.at) row,
         at_line (next_line p) (before + (p.at + 2)) refl,

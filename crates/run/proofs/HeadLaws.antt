@@ -1,7 +1,9 @@
 -- A line's head, a bar, a code and a bar: the six bytes lead from the line's start to the start of its field 2.
-use mathlib.Core.Path.{◌≡◌, ◌∙◌}
+use Rattle.std.specs.Prelude.{Option, Some, None, IfSome}
+use Rattle.std.specs.Int.{from_be_bytes, w32}
+use mathlib.Core.Path.{◌≡◌, ◌∙◌, refl}
 use mathlib.Core.Bool.{Bool, true, false, not, ◌&&◌}
-use mathlib.Core.List.{List}
+use mathlib.Core.List.{List, [], ◌∷◌}
 use Prim.Native.Nat.{ℕ, zero, suc, ◌+◌, ◌-◌, ◌*◌, ◌/◌, ◌%◌, ◌<◌, ◌≤◌}
 use native.Mathlib.Omega.{arith}
 use native.Mathlib.Nat.{zero-add, add-zero, add-suc, mod-eq_of_lt, div-eq_of_lt, mul-add-mod_self_right, mul-add-div_right}
@@ -11,7 +13,9 @@ use lib.Dec.{T, eqb}
 use lib.Ieee.Bits.{is_true}
 use lib.ListN.{length, get_or, drop}
 use lib.Seq.{drop-cons}
-use borrow.Author.Tests.{not-true, ne_eqb, lt-leb}
+use borrow.Author.Tests.{not-true, ne_eqb, eqb-false, lt-leb}
+use Rattle.layout.specs.Pick.{pick}
+use Rattle.layout.specs.Packed.{some_but}
 use Rattle.layout.specs.Lists.{all_below}
 use Rattle.layout.specs.Text.{bytes, code_number, text_number}
 use Rattle.layout.specs.Rows.{row_table, row_count, none, listed, code, row_of_code, row9999}
@@ -95,6 +99,23 @@ module _ (s : List ℕ) (i : ℕ) where
     word_small (suc (suc (suc zero))) l = omega (arith, all (i + 0), all (i + 1), all (i + 2))
     word_small (suc (suc (suc (suc n)))) l = absurd (omega arith)
 
+-- four bytes as one number, the first highest
+pub code_bytes : (s : List ℕ) (i : ℕ)
+    → from_be_bytes w32 (get_or s (i + 1) 0 ∷ get_or s (i + 2) 0 ∷ get_or s (i + 3) 0 ∷ get_or s (i + 4) 0 ∷ []) ≡ code_at s (i + 1)
+code_bytes s i =
+    let second : i + 1 + 1 ≡ i + 2 = omega arith in
+    let third : i + 1 + 2 ≡ i + 3 = omega arith in
+    let fourth : i + 1 + 3 ≡ i + 4 = omega arith in
+    rw (second, third, fourth) (omega arith)
+
+-- what is asked of a number that may be none
+pub if_some : (P : ℕ → Type 0) (z n : ℕ) → ((n ≡ z → ⊥) → P n) → IfSome (some_but z n) P
+if_some P z n p = go (eqb n z) refl
+  where
+    go : (t : Bool) → eqb n z ≡ t → IfSome (pick t None (Some n)) P
+    go true e = tt
+    go false e = p (eqb-false n z e)
+
 -- the place after the head of a line of row r
 abbrev pub past_head : Place → ℕ → Place
 past_head p r =
@@ -132,7 +153,7 @@ module _ (s : List ℕ) (p : Place) (before : ℕ) where
         let below = lt-leb byte_limit (at + n) (omega arith) in
         rw (below, no_bar b e, no_control b e, mod-eq_of_lt small, add-one n, add-one (at + n), add-suc at n)
 
-    end_step : (r : ℕ) → row_of_code (code_at s (p.at + 1)) ≡ r → Follows t.stamps t.occurrences p.last p.says r
+    end_step : (r : ℕ) → row_of_code (code_at s (p.at + 1)) ≡ r → Follows t p.last p.says r
         → step_with (in_code 4) t bar ≡ Next (field_start (past_head p r) (before + (p.at + 6)))
     unfolding step_of in_field_of bar_of code_bar_of word_row
     end_step r is f =
@@ -158,7 +179,7 @@ module _ (s : List ℕ) (p : Place) (before : ℕ) where
           (byte_passes (i + n) (i + suc n) (omega arith) (add-suc i n) (no_end _ e) (code_step n l e (word_small s i all n l)))
 
       head_passes : p.row ≡ none → eqb p.last row9999 ≡ false → (r : ℕ)
-          → Follows t.stamps t.occurrences p.last p.says r
+          → Follows t p.last p.says r
           → get_or s p.at 0 ≡ bar → row_of_code (code_at s (p.at + 1)) ≡ r → get_or s (p.at + 5) 0 ≡ bar
           → PassesTo s before p t (past_head p r) t
       head_passes start going r f opens is closes =
@@ -170,28 +191,29 @@ module _ (s : List ℕ) (p : Place) (before : ℕ) where
           (rw fifth
           (byte_passes (p.at + 5) (p.at + 6) (omega arith) (omega arith) (rw closes) (rw closes (end_step r is f))))))
 
-module _ (s ss os : List ℕ) (p : Place) (placed : Placed p) where
-  -- no head is passed
-  pub stays : Headed s ss os p p
-  stays = record { placed = placed; on = omega arith; near = omega arith; passes = λ before t room x y. here }
+-- inside a line no head is passed
+pub stays : (s : List ℕ) (t : Tally) (p : Place) → Placed p → p.row < row_count → Headed s t p p
+stays s t p placed inside =
+    record { placed = placed; inside = inside; on = omega arith; near = omega arith; passes = λ before room. here }
 
-  pub over_head : AllBytes s → p.at + 6 ≤ length s → p.row ≡ none → (r : ℕ) → Follows ss os p.last p.says r
-      → get_or s p.at 0 ≡ bar → row_of_code (code_at s (p.at + 1)) ≡ r → get_or s (p.at + 5) 0 ≡ bar
-      → Headed s ss os p (past_head p r)
-  over_head all within start r f opens is closes =
-      let known = silent_row r f.silent in
-      let two = fields_two r known in
-      record {
-        placed =
-            record {
-              row = omega arith;
-              going = λ e. absurd (omega arith);
-              silent = λ l. f.silent;
-              from = λ l. omega arith;
-              to = λ l. omega arith;
-            };
-        on = omega arith;
-        near = omega arith;
-        passes = λ before t room stamps occurrences.
-            head_passes s p before t room all within start (placed.going start) r (rw (stamps, occurrences) f) opens is closes;
-      }
+pub over_head : (s : List ℕ) (t : Tally) (p : Place) → Placed p → AllBytes s → p.at + 6 ≤ length s → p.row ≡ none
+    → (r : ℕ) → Follows t p.last p.says r
+    → get_or s p.at 0 ≡ bar → row_of_code (code_at s (p.at + 1)) ≡ r → get_or s (p.at + 5) 0 ≡ bar
+    → Headed s t p (past_head p r)
+over_head s t p placed all within start r f opens is closes =
+    let known = silent_row r f.silent in
+    let two = fields_two r known in
+    record {
+      placed =
+          record {
+            row = omega arith;
+            going = λ e. absurd (omega arith);
+            silent = λ l. f.silent;
+            from = λ l. omega arith;
+            to = λ l. omega arith;
+          };
+      inside = known;
+      on = omega arith;
+      near = omega arith;
+      passes = λ before room. head_passes s p before t room all within start (placed.going start) r f opens is closes;
+    }

@@ -1,4 +1,4 @@
--- Bytes that are all accepted, one by one: the run over them is the run from where they lead, and the ranges hold there.
+-- Bytes that are all accepted, one by one: the ranges hold where they lead.
 use mathlib.Core.Path.{◌≡◌, refl}
 use mathlib.Core.Bool.{false}
 use mathlib.Core.List.{List, ◌∷◌}
@@ -16,7 +16,6 @@ use Rattle.line.specs.Machine.{Next}
 use Rattle.line.specs.Tally.{Held}
 use Rattle.line.specs.declared.tally.Tally.{Tally}
 use Rattle.line.specs.Tally.{counts_with, stamps_with, occurrences_with, totals_with, stated_with, pairs_with, tally_with, step_with}
-use Rattle.state.specs.Piece.{run_of}
 use Rattle.rules.specs.Bytes.{AllBytes}
 use Rattle.run.specs.Places.{Passes}
 use Rattle.run.specs.Places.Passes.{here, byte}
@@ -24,11 +23,6 @@ use Rattle.line.proofs.HeldLaws.{held_next}
 
 pub bytes_from : (s : List ℕ) → AllBytes s → (i : ℕ) → AllBytes (drop i s)
 bytes_from s all i k = rw (get_or-drop i s k 0) (all (i + k))
-
-pub passes_run : {h h' : Hot} {t t' : Tally} {xs ys : List ℕ} → Passes h t xs h' t' ys → run_of h t xs ≡ run_of h' t' ys
-unfolding run_of
-passes_run here = refl
-passes_run (byte e p) = rw e (passes_run p)
 
 pub passes_held : {h h' : Hot} {t t' : Tally} {xs ys : List ℕ} → Passes h t xs h' t' ys → AllBytes xs → Held h t → Held h' t'
 passes_held here all d = d

@@ -1,22 +1,22 @@
 -- Rules of the rows whose lines say nothing, and of the places between fields or lines.
+use Rattle.std.specs.Prelude.{is_some}
 use mathlib.Core.Path.{◌≡◌, ◌∙◌, refl, ap}
 use mathlib.Core.Bool.{true, false, not, ◌&&◌}
 use mathlib.Core.List.{List}
 use Prim.Native.Nat.{ℕ, zero, suc, ◌+◌, ◌-◌, ◌<◌, ◌≤◌}
 use native.Mathlib.Omega.{arith}
 use lib.Dec.{eqb, leb, ltb}
-use lib.ListN.{get_or}
-use borrow.Author.Tests.{leb-true, lt-ltb, le-ltb, not-true, eq-eqb, ne_eqb}
+use Rattle.std.proofs.lemmas.Bool.{not-false}
+use borrow.Author.Tests.{leb-true, lt-ltb, le-ltb, not-true, eq-eqb, eqb-true, ne_eqb}
 use Rattle.layout.specs.Rows.{row_count, none, fields, level, block, blocks, is_opening, is_closing, row0000, row9900, row9999}
 use Rattle.layout.specs.Kinds.{field_count, row_start}
-use Rattle.layout.specs.Packed.{start_column}
+use Rattle.layout.specs.Packed.{some_but}
 use Rattle.layout.specs.Periods.{period_count, period_of, later_date}
 use Rattle.layout.proofs.RoleLaws.{level_row, level_0000, level_9999}
 use Rattle.layout.proofs.PeriodLaws.{no_later}
 use Rattle.layout.proofs.BlockLaws.{opening_level, closing_level}
 use Rattle.layout.proofs.StartLaws.{block_below}
 use Rattle.layout.proofs.KindLaws.{fields_within}
-use Rattle.layout.proofs.PackedLaws.{start_entry}
 use Rattle.rules.proofs.TestLaws.{split, and_left, and_right}
 use Rattle.field.specs.Streaming.{empty_field}
 use Rattle.field.specs.declared.bytes.Field.{Field}
@@ -69,11 +69,16 @@ module _ (r : ℕ) (silent : is_silent r ≡ true) where
   pub silent_closing : is_closing r ≡ false
   silent_closing = split (is_closing r) (λ t. absurd (omega (arith, closing_level r silent_row t, silent_data))) (λ t. t)
 
--- and of these rows alone the entry is a block
-pub silent_below : (r : ℕ) → ltb (silent_block r) blocks ≡ is_silent r
+pub silent_block_below : (r : ℕ) → is_silent r ≡ true → silent_block r < blocks
+silent_block_below r e = omega (arith, silent_block_lem r e, block_below r (silent_row r e))
+
+-- and of these rows alone there is one
+pub silent_known : (r : ℕ) → is_some (some_but blocks (silent_block r)) ≡ is_silent r
 unfolding silent_block
-silent_below r =
-    split (is_silent r) (λ e. rw e (lt-ltb (block r) blocks (block_below r (silent_row r e)))) (λ e. rw e)
+silent_known r =
+    split (is_silent r)
+    (λ e. rw (e, ne_eqb (block r) blocks (λ q. omega (arith, block_below r (silent_row r e)))))
+    (λ e. rw e)
 
 -- The state at a place.
 module _ (p : Place) (bytes : ℕ) where
@@ -90,9 +95,6 @@ module _ (p : Place) (bytes : ℕ) where
   place_bytes = split (eqb p.row none) (λ t. rw t) (λ t. rw t)
 
 -- Where the fields of a row start in the table of kinds.
-pub start_at : (starts : List ℕ) (r : ℕ) → starts ≡ start_column → r ≤ row_count → get_or starts r 0 ≡ row_start r
-start_at starts r e l = rw e (start_entry r l)
-
 pub start_next : (r : ℕ) → row_start (suc r) ≡ row_start r + fields r
 unfolding row_start
 start_next r = refl
@@ -106,9 +108,15 @@ start_most (suc r) l = omega (arith, start_next r, fields_within r l)
 pub bars_within : (p : Place) → Placed p → p.row < row_count → p.index - row_start p.row ≤ field_count
 bars_within p placed l = omega (arith, placed.to l, fields_within p.row l)
 
--- Nothing has come of a field whose numbers are 0.
-pub no_byte_lem : (f : Field) → f.length ≡ 0 → f.wrong ≡ 0 → f.value ≡ 0 → f ≡ empty_field
-no_byte_lem f = same f.length f.wrong f.value
+-- Nothing has come of a field that is as before its first byte.
+pub no_byte : (f : Field) → not (eqb f.length 0 && (eqb f.wrong 0 && eqb f.value 0)) ≡ false → f ≡ empty_field
+no_byte f e =
+    let all = not-false (eqb f.length 0 && (eqb f.wrong 0 && eqb f.value 0)) e in
+    let rest = and_right (eqb f.length 0) (eqb f.wrong 0 && eqb f.value 0) all in
+    same f.length f.wrong f.value
+    (eqb-true f.length 0 (and_left (eqb f.length 0) (eqb f.wrong 0 && eqb f.value 0) all))
+    (eqb-true f.wrong 0 (and_left (eqb f.wrong 0) (eqb f.value 0) rest))
+    (eqb-true f.value 0 (and_right (eqb f.wrong 0) (eqb f.value 0) rest))
   where
     same : (l w v : ℕ) → l ≡ 0 → w ≡ 0 → v ≡ 0 → ◌≡◌ {A = Field} (record { length = l; wrong = w; value = v }) empty_field
     same l w v p q r = rw (p, q, r)

@@ -1,21 +1,21 @@
 -- Whole lines and fields at once: a place between fields or lines, the state there, and what leads from one place to the next.
 use Rattle.std.specs.Prelude.{true, false, ◌≡◌, List, [], ◌∷◌, ℕ, ◌+◌, ◌-◌, ◌*◌, ◌≤◌, ◌<◌, min, eqb, length, get_or, drop}
 use Rattle.layout.specs.Pick.{pick}
-use Rattle.layout.specs.Rows.{row_count, none, fields, row9999}
+use Rattle.layout.specs.Rows.{row_count, none, fields, block, row_of_code, row9999}
 use Rattle.layout.specs.Kinds.{kind, row_start}
 use Rattle.layout.specs.Packed.{kind_number}
 use Rattle.layout.specs.Silent.{is_silent}
-use Rattle.rules.specs.Bytes.{CR, LF}
+use Rattle.rules.specs.Bytes.{bar, CR, LF}
 use Rattle.rules.specs.Rules.{byte_limit}
 use Rattle.field.specs.Streaming.{empty_field}
 use Rattle.whole.specs.Whole.{longest, margin}
 use Rattle.line.specs.Machine.{code_kind, code_only, stands_of, misplaced_of, room_of}
 use Rattle.line.specs.declared.hot.Hot.{Hot}
-use Rattle.line.specs.Machine.{Next}
+use Rattle.line.specs.Machine.{Next, Broken}
 use Rattle.line.specs.Tally.{Held}
 use Rattle.line.specs.declared.tally.Tally.{Tally}
 use Rattle.run.specs.declared.place.Place.{Place}
-use Rattle.line.specs.Tally.{tally_of, tally_with, step_with}
+use Rattle.line.specs.Tally.{counted_tally, raised_tally, tally_with, step_with}
 
 -- From h, with t kept, the bytes of xs are accepted one by one up to ys: there the state is h', and t' is kept.
 pub data Passes : Hot → Tally → List ℕ → Hot → Tally → List ℕ → Type 0 where
@@ -113,20 +113,27 @@ PassesTo s before p t r t' =
 abbrev pub code_at : List ℕ → ℕ → ℕ
 code_at s i = ((get_or s i 0 * 256 + get_or s (i + 1) 0) * 256 + get_or s (i + 2) 0) * 256 + get_or s (i + 3) 0
 
+-- between two bars stands the code of row r
+pub record HasCode (s : List ℕ) (i r : ℕ) : Type 0 where
+  pub row : r < row_count
+  pub opens : get_or s i 0 ≡ bar
+  pub code : row_of_code (code_at s (i + 1)) ≡ r
+  pub closes : get_or s (i + 5) 0 ≡ bar
+
 -- a line of a silent row r can follow
-pub record Follows (ss os : List ℕ) (last says r : ℕ) : Type 0 where
+pub record Follows (t : Tally) (last says r : ℕ) : Type 0 where
   pub silent : is_silent r ≡ true
   pub stands : stands_of last r ≡ true
   pub placed : misplaced_of says r ≡ false
-  pub room : room_of ss os r ≡ true
+  pub room : room_of t.stamps t.occurrences r ≡ true
 
--- over a line's head, or nowhere
-pub record Headed (s ss os : List ℕ) (p r : Place) : Type 0 where
+-- over a line's head, at what is kept
+pub record Headed (s : List ℕ) (t : Tally) (p r : Place) : Type 0 where
   pub placed : Placed r
+  pub inside : r.row < row_count
   pub on : p.at ≤ r.at
   pub near : r.at ≤ p.at + 6
-  pub passes : (before : ℕ) (t : Tally) → before + p.at + 6 ≤ byte_limit → t.stamps ≡ ss → t.occurrences ≡ os
-      → PassesTo s before p t r t
+  pub passes : (before : ℕ) → before + p.at + 6 ≤ byte_limit → PassesTo s before p t r t
 
 -- over whole fields, as far as they go: each starts before `safe`
 pub record Fielded (s : List ℕ) (safe : ℕ) (p r : Place) : Type 0 where
@@ -154,21 +161,31 @@ next_line p =
       index = 0;
     }
 
+-- the tally after a line of a silent row r, the file's line n
+abbrev pub counted_with : Tally → ℕ → ℕ → Tally
+counted_with t r n = raised_tally (counted_tally t r n) (block r)
+
 -- up to where fields are looked for: the end of the piece, or of the byte limit if that is nearer, less the margin
 unfoldable pub safe_of : ℕ → ℕ → ℕ
 safe_of before n = min n (byte_limit - before) - margin
 
--- Over whole lines and fields, as far as they go. What 9900 lines state and the pairs of dates are not asked, and stay.
-pub record Along (s : List ℕ) (before : ℕ) (p : Place) (cs ss os bs : List ℕ) (r : Place) (cs' ss' os' bs' : List ℕ) : Type 0 where
+-- Over whole lines and fields, as far as they go.
+pub record Along (s : List ℕ) (before : ℕ) (p : Place) (t : Tally) (r : Place) (t' : Tally) : Type 0 where
   pub placed : Placed r
   pub on : p.at ≤ r.at
   pub within : r.at ≤ length s
-  pub held : Held (hot_at r (before + r.at)) (tally_of cs' ss' os' bs' [] [])
-  pub passes : (ds ps : List ℕ) → PassesTo s before p (tally_of cs ss os bs ds ps) r (tally_of cs' ss' os' bs' ds ps)
+  pub held : Held (hot_at r (before + r.at)) t'
+  pub passes : PassesTo s before p t r t'
 
 -- the same from a state h, i bytes into the piece, to the state r
-pub record Onward (s : List ℕ) (before i : ℕ) (h : Hot) (cs ss os bs : List ℕ) (r : Hot) (cs' ss' os' bs' : List ℕ) : Type 0 where
+pub record Onward (s : List ℕ) (before i : ℕ) (h : Hot) (t : Tally) (r : Hot) (t' : Tally) : Type 0 where
   pub on : before + i ≤ r.bytes
   pub within : r.bytes ≤ before + length s
-  pub passes : (ds ps : List ℕ)
-      → Passes h (tally_of cs ss os bs ds ps) (drop i s) r (tally_of cs' ss' os' bs' ds ps) (drop (r.bytes - before) s)
+  pub passes : Passes h t (drop i s) r t' (drop (r.bytes - before) s)
+
+-- The bytes are accepted one by one up to one that breaks a rule in some field: there the state is h', and t' is kept.
+pub record Stops (h : Hot) (t : Tally) (bytes : List ℕ) (rule field : ℕ) (h' : Hot) (t' : Tally) : Type 0 where
+  pub byte : ℕ
+  pub rest : List ℕ
+  pub passes : Passes h t bytes h' t' (byte ∷ rest)
+  pub broken : step_with h' t' byte ≡ Broken rule field

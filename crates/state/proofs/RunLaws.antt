@@ -15,6 +15,8 @@ use Rattle.line.specs.declared.tally.Tally.{Tally}
 use Rattle.state.specs.declared.answers.Checked.{Checked}
 use Rattle.line.proofs.StepRanges.{Leads, stops, step_leads}
 use Rattle.line.proofs.HeldLaws.{held_next}
+use Rattle.run.specs.Places.{Passes}
+use Rattle.run.specs.Places.Passes.{here, byte}
 
 -- What a piece comes to: nothing is refused so far, or a byte has broken a rule; all within the ranges.
 pub data Comes : Checked → Type 0 where
@@ -34,3 +36,9 @@ run_comes (b ∷ piece) all h t d =
         → Comes (on_step s (λ n. run_of n (tally_with h n.lines b t) piece) (stopped_of h t))
     go (Next n) e l ih = ih n e
     go (Broken r f) e (stops is named) ih = stops_by h t r f d is named
+
+-- Over bytes that are all accepted: the run over them is the run from where they lead.
+pub passes_run : {h h' : Hot} {t t' : Tally} {xs ys : List ℕ} → Passes h t xs h' t' ys → run_of h t xs ≡ run_of h' t' ys
+unfolding run_of
+passes_run here = refl
+passes_run (byte e p) = rw e (passes_run p)

@@ -3,18 +3,17 @@ use Rattle.run.proofs.lines.lines_from.Goals as goal
 
 pub returns-then-not-begins : goal.returns-then-not-begins
 returns-then-not-begins c =
-    onward_none _ _ _ c.requires.inside.0 c.requires.inside.1 _ _ _ _
+    let inside = c.requires.inside in
+    onward_none _ _ _ inside.0 inside.1 _
 
 pub lines_past-p-requires : goal.lines_past-p-requires
 lines_past-p-requires c =
-    let pre = c.requires in
+    let inside = c.requires.inside in
     let begins = c.begins.ensures c.if-not-begins.false in
-    record { tables = pre.tables; along = rw c.place_of.ensures (along_start _ _ _ pre.inside.0 pre.inside.1 _ _ _ _ begins pre.held) }
+    rw c.of.ensures (along_start _ _ _ inside.0 inside.1 _ begins c.requires.held)
 
 pub returns : goal.returns
 returns c =
-    let pre = c.requires in
+    let inside = c.requires.inside in
     let begins = c.begins.ensures c.if-not-begins.false in
-    rw c.hot_at.ensures
-    (onward_along _ _ _ pre.inside.0 pre.inside.1 _ _ _ _ begins
-    (rw c.place_of.ensures at c.lines_past-p.ensures))
+    rw c.hot-line.ensures (onward_along _ _ _ inside.0 inside.1 _ begins (rw c.of.ensures at c.lines_past-p.ensures))
