@@ -11,7 +11,7 @@ use Rattle.layout.specs.Pick.{pick}
 use Rattle.layout.specs.Rows.{row_count, row9999}
 use Rattle.state.specs.Answers.{numbers}
 use Rattle.state.specs.Piece.{kept_of}
-use Rattle.sef.specs.Calls.{unchanged, check_of, final_answer_of, finally_unchanged, finish_of, report_of, reported_of}
+use Rattle.state.specs.Calls.{unchanged, check_of, final_answer_of, finally_unchanged, finish_of, report_of, reported_of}
 use Rattle.state.specs.Ranges.{ranged_of}
 use Rattle.rules.specs.Bytes.{AllBytes}
 use Rattle.sef.specs.Promises.{Reports}
@@ -24,7 +24,7 @@ use Rattle.state.specs.declared.answers.FinalAnswer.TheVariants as Final
 use Rattle.state.specs.declared.answers.ReportAnswer.{ReportAnswer}
 use Rattle.state.specs.declared.answers.ReportAnswer.TheVariants as Report
 use Rattle.sef.proofs.InRangeLaws.{Pieces, check_pieces, Finishing, finish_finishing}
-use Rattle.sef.proofs.CallCases.{check_damaged, finish_damaged}
+use Rattle.state.proofs.CallCases.{check_damaged, finish_damaged}
 
 -- A piece at any state: 19, or what it comes to at a state in range.
 pub data AnyPiece (s : State) (piece : List ℕ) : Checked → Type 0 where

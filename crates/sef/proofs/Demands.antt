@@ -25,7 +25,7 @@ use Rattle.rules.proofs.TotalLaws.{accepted_there, accepted_has_0_and_9, accepte
 use Rattle.line.specs.Machine.{position_of}
 use Rattle.state.specs.Answers.{numbers, numbers_of, said, finally_said, report_said}
 use Rattle.state.specs.Piece.{open_of, stopped_of, run_of, kept_of}
-use Rattle.sef.specs.Calls.{unchanged, check_of, final_answer_of, finish_of, report_of}
+use Rattle.state.specs.Calls.{unchanged, check_of, final_answer_of, finish_of, report_of}
 use Rattle.state.specs.Ranges.{position_ranged, ranged_of}
 use Rattle.sef.specs.Promises.{Reached, start, more, Given, Finishes, Reports}
 use Rattle.sef.specs.Demands as D
@@ -47,7 +47,7 @@ use Rattle.state.proofs.RunLaws.{Comes, opens, stops_by}
 use Rattle.sef.proofs.InRangeLaws.{stopped_ranged, Pieces, late, kept, run, check_pieces, Finishing, closes}
 use Rattle.sef.proofs.InRangeLaws.{finish_finishing}
 use Rattle.sef.proofs.Joined.{reached_state, reached_ranged, reached_open, given_ranged}
-use Rattle.sef.proofs.CallCases.{check_damaged, check_late, check_kept, check_run, finish_damaged, finish_late, finish_now}
+use Rattle.state.proofs.CallCases.{check_damaged, check_late, check_kept, check_run, finish_damaged, finish_late, finish_now}
 use Rattle.sef.proofs.CallViews.{AnyPiece, any_piece, AnyFinish, any_finish, AnyReport, report_any, Finals, finals}
 use Rattle.sef.proofs.CallViews.{damaged, ranged, no_room, writes, accepts, short, keeps}
 

@@ -14,8 +14,8 @@ use Rattle.rules.specs.Totals.{sum, sum_of_block}
 use Rattle.line.specs.Machine.{most_bars, position_of}
 use Rattle.state.specs.Piece.{state_of, open_of, stopped_of, judged_one, run_of, kept_of}
 use Rattle.state.specs.Piece.{fresh}
-use Rattle.sef.specs.Calls.{unchanged, check_of, final_answer_of}
-use Rattle.sef.specs.Calls.{closed_of, finally_unchanged, finish_of}
+use Rattle.state.specs.Calls.{unchanged, check_of, final_answer_of}
+use Rattle.state.specs.Calls.{closed_of, finally_unchanged, finish_of}
 use Rattle.state.specs.Ranges.{line_ranged, hot_ranged, refusal_ranged, tally_ranged, ranged_of}
 use Rattle.rules.specs.Numbers.{is_rule}
 use Rattle.line.specs.Tally.{Held}

@@ -7,7 +7,7 @@ use mathlib.Core.Logic.{⊎_elim}
 use Prim.Native.Nat.{ℕ}
 use Rattle.rules.specs.Verdict.{verdict_of, final_of, counts_of, totals_of}
 use Rattle.state.specs.Answers.{numbers_of, said, finally_said}
-use Rattle.sef.specs.Calls.{check_of, closed_of, finish_of}
+use Rattle.state.specs.Calls.{check_of, closed_of, finish_of}
 use Rattle.state.specs.Ranges.{ranged_of}
 use Rattle.sef.specs.Promises.{Reached, start, more, Closed, done, Given}
 use Rattle.state.specs.declared.State.{State}

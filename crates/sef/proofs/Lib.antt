@@ -1,5 +1,3 @@
-pub mod FillLaws
-pub mod CallCases
 pub mod InRangeLaws
 pub mod ArrayLaws
 pub mod NumberLaws

@@ -12,7 +12,7 @@ use Rattle.rules.proofs.TestLaws.{both}
 use Rattle.rules.proofs.CountLaws.{totals_at}
 use Rattle.state.specs.Answers.{numbers_of, said, finally_said, report_said}
 use Rattle.state.specs.Piece.{open_of, stopped_of, kept_of}
-use Rattle.sef.specs.Calls.{check_of, final_answer_of, finish_of}
+use Rattle.state.specs.Calls.{check_of, final_answer_of, finish_of}
 use Rattle.state.specs.Ranges.{ranged_of}
 use Rattle.sef.specs.Promises as P
 use Rattle.state.specs.declared.State.{State}

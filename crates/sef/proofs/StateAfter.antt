@@ -24,7 +24,7 @@ use Rattle.line.specs.Machine.{position_of}
 use Rattle.state.specs.Answers.{numbers_of, said, finally_said}
 use Rattle.line.specs.Tally.{tally_of}
 use Rattle.state.specs.Piece.{open_of, stopped_of, run_of, kept_of}
-use Rattle.sef.specs.Calls.{check_of, final_answer_of, finish_of}
+use Rattle.state.specs.Calls.{check_of, final_answer_of, finish_of}
 use Rattle.state.specs.Ranges.{ranged_of}
 use Rattle.line.specs.declared.tally.Tally.{Tally}
 use Rattle.state.specs.declared.answers.Checked.{Checked}

@@ -16,7 +16,7 @@ use Rattle.rules.specs.Totals.{closings_state, stated_by, lines_of, last_line, r
 use Rattle.line.specs.Machine.{most_bars}
 use Rattle.state.specs.Answers.{numbers, numbers_of, said, finally_said, report_said}
 use Rattle.state.specs.Piece.{fresh}
-use Rattle.sef.specs.Calls.{check_of}
+use Rattle.state.specs.Calls.{check_of}
 use Rattle.rules.specs.Numbers.{is_rule}
 use Rattle.state.specs.Ranges.{position_ranged, ranged_of}
 use Rattle.rules.specs.Bytes.{AllBytes}

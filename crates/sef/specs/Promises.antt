@@ -9,7 +9,7 @@ use Rattle.rules.specs.Verdict.{standing, verdict_of, final_of, counts_of, total
 use Rattle.state.specs.Answers.{numbers, numbers_of, said, finally_said, report_said}
 use Rattle.rules.specs.Bytes.{AllBytes}
 use Rattle.state.specs.Piece.{fresh}
-use Rattle.sef.specs.Calls.{check_of, finish_of, report_of, reported_of}
+use Rattle.state.specs.Calls.{check_of, finish_of, report_of, reported_of}
 use Rattle.state.specs.Ranges.{ranged_of}
 use Rattle.state.specs.declared.State.{State}
 use Rattle.state.specs.declared.answers.Checked.{Checked}

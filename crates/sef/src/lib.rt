@@ -3,6 +3,5 @@
 #![tactic(auto)]
 
 pub mod calls;
-mod fill;
 
 pub use state::{State, Tally, answers};

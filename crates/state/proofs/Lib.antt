@@ -3,3 +3,4 @@ pub mod RangeLaws
 pub mod SumLaws
 pub mod PartLaws
 pub mod RunLaws
+pub mod CallCases

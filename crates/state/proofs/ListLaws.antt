@@ -2,6 +2,7 @@
 use mathlib.Core.Path.{◌≡◌, sym}
 use mathlib.Core.Bool.{Bool, true, false}
 use mathlib.Core.List.{List}
+use borrow.Author.Tests.{eq-eqb}
 use Prim.Native.Nat.{ℕ, ◌<◌}
 use lib.ListN.{length, get_or}
 use Rattle.std.specs.List.{list_all}
@@ -23,3 +24,6 @@ list_all_below test xs =
     rw t (sym (all_below_lem _ (length xs) (λ k h. All-get_or (λ x. test x ≡ true) xs k 0 h each))))
     (λ f. rw f (sym (false_from_ne_true (all_below (length xs) (λ k. test (get_or xs k 0)))
     (λ t. let each = list_all-from_AllPass test xs (All-from_get_or (λ x. test x ≡ true) xs 0 (all_at _ (length xs) t)) in cc))))
+
+-- with a list's length where that is asked
+pub ruleset list_tests = (list_all_below, eq-eqb)

@@ -1,5 +1,5 @@
 -- What a piece comes to keeps all within the ranges.
-use mathlib.Core.Path.{◌≡◌, refl}
+use mathlib.Core.Path.{◌≡◌, ◌∙◌, refl}
 use mathlib.Core.Bool.{true}
 use mathlib.Core.List.{List, [], ◌∷◌}
 use Prim.Native.Nat.{ℕ, suc, ◌≤◌}
@@ -15,7 +15,7 @@ use Rattle.line.specs.declared.tally.Tally.{Tally}
 use Rattle.state.specs.declared.answers.Checked.{Checked}
 use Rattle.line.proofs.StepRanges.{Leads, stops, step_leads}
 use Rattle.line.proofs.HeldLaws.{held_next}
-use Rattle.run.specs.Places.{Passes}
+use Rattle.run.specs.Places.{Passes, Stops}
 use Rattle.run.specs.Places.Passes.{here, byte}
 
 -- What a piece comes to: nothing is refused so far, or a byte has broken a rule; all within the ranges.
@@ -42,3 +42,13 @@ pub passes_run : {h h' : Hot} {t t' : Tally} {xs ys : List ℕ} → Passes h t x
 unfolding run_of
 passes_run here = refl
 passes_run (byte e p) = rw e (passes_run p)
+
+-- what the bytes come to: all have passed, or one has broken a rule
+pub run_all : {h h' : Hot} {t t' : Tally} {xs : List ℕ} → Passes h t xs h' t' [] → run_of h t xs ≡ open_of h' t'
+unfolding run_of
+run_all p = passes_run p
+
+pub run_stops : {h h' : Hot} {t t' : Tally} {xs : List ℕ} {rule field : ℕ} → Stops h t xs rule field h' t'
+    → run_of h t xs ≡ stopped_of h' t' rule field
+unfolding run_of
+run_stops s = passes_run s.passes ∙ rw s.broken

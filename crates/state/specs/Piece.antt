@@ -10,7 +10,9 @@ use Rattle.state.specs.Answers.{numbers}
 use Rattle.state.specs.declared.State.{State}
 use Rattle.state.specs.declared.answers.Numbers.{Numbers}
 use Rattle.state.specs.declared.answers.Checked.{Checked}
+use Rattle.state.specs.declared.answers.Finished.{Finished}
 use Rattle.state.specs.declared.answers.Answer.{Answer}
+use Rattle.state.specs.declared.answers.FinalAnswer.{FinalAnswer}
 use Rattle.state.specs.declared.answers.Answer.TheVariants as Piece
 
 abbrev pub state_of : Hot → ℕ → ℕ → ℕ → Bool → Tally → State
@@ -42,6 +44,10 @@ fresh =
 -- A piece, byte by byte: the answer and the state that it leaves.
 abbrev pub checked : Answer → State → Checked
 checked a s = record { answer = a; state = s }
+
+-- a finish: the same
+abbrev pub finished : FinalAnswer → State → Finished
+finished a s = record { answer = a; state = s }
 
 -- the refusal that a state keeps
 unfoldable pub kept_of : State → Numbers

@@ -4,6 +4,7 @@
 ghost use Rattle.std.specs.Prelude.{◌≡◌, ◌+◌, ◌<◌, ◌^◌};
 
 pub mod answers;
+pub mod calls;
 mod ranges;
 
 use crate::answers::{Answer, Numbers};

@@ -138,7 +138,7 @@ impl State {
     }
 
     // What is kept for each row and each block. Of a pair of dates any number is in range: it is only compared.
-    #[tactic(auto, using(field::proofs::Picks::compared, crate::proofs::ListLaws::list_all_below), unfolding(crate::specs::Ranges::tally_ranged))]
+    #[tactic(auto, using(crate::proofs::ListLaws::list_tests), unfolding(crate::specs::Ranges::tally_ranged))]
     fn tally_ranged(&self) -> bool
         ensures { result ≡ tally_ranged self.now.tally self.now.hot.lines self.now.hot.bytes }
     {

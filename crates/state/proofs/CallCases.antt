@@ -7,7 +7,7 @@ use lib.Dec.{eqb}
 use borrow.Author.Tests.{eq-eqb, ne_eqb}
 use Rattle.layout.specs.Pick.{pick}
 use Rattle.state.specs.Piece.{run_of, kept_of}
-use Rattle.sef.specs.Calls.{unchanged, check_of, final_answer_of, closed_of, finally_unchanged, finish_of}
+use Rattle.state.specs.Calls.{unchanged, check_of, final_answer_of, closed_of, finally_unchanged, finish_of}
 use Rattle.state.specs.Ranges.{ranged_of}
 use Rattle.state.specs.declared.State.{State}
 use Rattle.state.specs.declared.answers.Answer.TheVariants as Piece
