@@ -18,38 +18,38 @@ const SIZE_MOST: u64 = 65536;
 // A class is below SIZE_UNIT.
 pub const KIND_MOST: u64 = SIZE_UNIT * (SIZE_MOST + 1) - 1;
 
-// What a field may hold, by number in this order.
+// What a field may hold, with the number of each.
 #[derive(Clone, Copy, PartialEq, Eq)]
 pub enum Class {
     // past a row's last field
-    NoField,
+    NoField = 0,
     // field 1 of every line
-    Code,
+    Code = 1,
     // the code that a 9900 line speaks of
-    LineCode,
+    LineCode = 2,
     // C: at most so many bytes
-    Text,
+    Text = 3,
     // N: exactly so many digits
-    Digits,
+    Digits = 4,
     // N without a size
-    Number,
+    Number = 5,
     // N with so many decimals
-    Decimals,
+    Decimals = 6,
     // ddmmyyyy
-    Date,
+    Date = 7,
     // the fixed texts
-    Lfpd,
-    Brasil,
+    Lfpd = 8,
+    Brasil = 9,
     // field 2 of an opening: one digit
-    Opens,
+    Opens = 10,
     // field 2 of a closing and of 9999
-    Count,
+    Count = 11,
     // digits with check digits
-    Cnpj,
-    Cpf,
+    Cnpj = 12,
+    Cpf = 13,
     // no field's class: a number may name them
-    Unused14,
-    Unused15,
+    Unused14 = 14,
+    Unused15 = 15,
 }
 
 // A class, and the size that it asks for; 0 where it asks for none.
@@ -60,6 +60,7 @@ pub struct Kind {
 }
 
 impl Kind {
+    #[tactic(auto, unfolding(crate::specs::Packed::number_of))]
     pub fn number(self) -> u64
         ensures { result ≡ number_of self }
     {
