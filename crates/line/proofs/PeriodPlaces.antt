@@ -43,4 +43,5 @@ pub kept_most : (counts : List ℕ) (r : ℕ) → pairs_kept counts r ≤ most_p
 unfolding pairs_kept
 kept_most counts r = omega arith
 
+-- for the functions that ask a row's place
 pub ruleset places = (place_is, place_below, no_place, no_date, kept_most)

@@ -1,6 +1,6 @@
 -- A search in a list, by the entries up to a place.
 use mathlib.Core.Path.{◌≡◌, ◌∙◌, refl, sym, ap}
-use mathlib.Core.Bool.{Bool, true, false, not, ◌&&◌, ◌||◌}
+use mathlib.Core.Bool.{Bool, true, false, not, ◌&&◌, ◌||◌, and_comm}
 use mathlib.Core.List.{List}
 use Prim.Native.Nat.{ℕ, zero, suc, ◌+◌, ◌-◌, ◌≤◌}
 use native.Mathlib.Omega.{arith}
@@ -15,12 +15,6 @@ use Rattle.std.proofs.lemmas.List.Folds.{list_all_more, list_any_more}
 use Rattle.layout.specs.Lists.{all_below}
 use Rattle.layout.proofs.Below.{all_same}
 
-and_turned : (a b : Bool) → (a && b) ≡ (b && a)
-and_turned true true = refl
-and_turned true false = refl
-and_turned false true = refl
-and_turned false false = refl
-
 or_turned : (a b : Bool) → (not a || b) ≡ not (not b && a)
 or_turned true true = refl
 or_turned true false = refl
@@ -34,7 +28,7 @@ module _ (test : ℕ → Bool) (xs : List ℕ) where
   all_is (suc n) l =
       let next : suc n ≡ n + 1 = omega arith in
       ap (λ k. list_all test (take k xs)) next ∙ list_all_more test xs n 0 (omega arith)
-      ∙ rw (all_is n (omega arith)) (and_turned _ (test (get_or xs n 0)))
+      ∙ rw (all_is n (omega arith)) (and_comm _ (test (get_or xs n 0)))
 
   pub any_is : (n : ℕ) → n ≤ length xs → list_any test (take n xs) ≡ not (all_below n (λ i. not (test (get_or xs i 0))))
   unfolding all_below

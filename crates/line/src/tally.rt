@@ -98,7 +98,7 @@ impl Tally {
     }
 
     // Whether the pair of dates is new to its row, and has room there. It is asked at the bar after the later date.
-    #[tactic(auto, unfolding(crate::specs::Machine::pair_rule_of, crate::specs::Machine::repeated_of, crate::specs::Machine::crowded_of, layout::specs::Periods::later_date,), using(crate::proofs::PeriodPlaces::places))]
+    #[tactic(auto, unfolding(crate::specs::Machine::pair_rule_of, crate::specs::Machine::repeated_of, crate::specs::Machine::crowded_of, layout::specs::Periods::later_date), using(crate::proofs::PeriodPlaces::places))]
     pub fn pair_fault(&self, line: &Line) -> Result<(), Rule>
         requires { 1 ≤ line.now.hot.bars }
         ensures { broken result
@@ -203,7 +203,7 @@ impl Tally {
     }
 
     // The line at hand ends.
-    #[tactic(auto, unfolding(crate::specs::Tally::counts_with, crate::specs::Tally::stamps_with, crate::specs::Tally::occurrences_with, crate::specs::Tally::totals_with, crate::specs::Tally::pairs_with,))]
+    #[tactic(auto, unfolding(crate::specs::Tally::counts_with, crate::specs::Tally::stamps_with, crate::specs::Tally::occurrences_with, crate::specs::Tally::totals_with, crate::specs::Tally::pairs_with))]
     pub fn note(&mut self, line: &Line)
         requires { Countable self.old }
         ensures { self.new ≡ tally_with line.now.hot (line.now.hot.lines + 1) LF self.old }
