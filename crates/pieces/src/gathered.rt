@@ -1,62 +1,55 @@
-// Output that is gathered in a lent array: an answer then takes one write, and not one for each number.
+// Output that is gathered in fixed memory: an answer then takes one write, and not one for each number.
+use arrayvec::ArrayVec;
 use std::io::{Result, Write};
 
-pub const ROOM: usize = 512;
+const ROOM: usize = 512;
 
-// One more byte at this place, and the place after it. A full array is written first.
-fn byte<W: Write>(to: &mut W, gathered: &mut [u8; ROOM], at: usize, b: u8) -> Result<usize> {
-    if at < ROOM {
-        gathered[at] = b;
-        return Ok(at + 1);
+#[derive(Drop)]
+pub struct Gathered<W: Write + Drop> {
+    pub to: W,
+    pub bytes: ArrayVec<u8, ROOM>,
+}
+
+impl<W: Write + Drop> Gathered<W> {
+    ghost use Rattle.std.specs.Prelude.{◌≡◌, []};
+
+    // Nothing is gathered yet.
+    pub fn new(to: W) -> Self
+        ensures to { result.to ≡ to }
+        ensures empty { result.bytes.items ≡ [] }
+    {
+        Gathered {
+            to,
+            bytes: ArrayVec::new(),
+        }
     }
-    to.write_all(gathered)?;
-    gathered[0] = b;
-    Ok(1)
 }
 
-pub fn text<W: Write>(
-    to: &mut W,
-    gathered: &mut [u8; ROOM],
-    at: usize,
-    bytes: &[u8],
-) -> Result<usize> {
-    let mut next = at;
-    for i in 0..bytes.len() {
-        next = byte(to, gathered, next, bytes[i])?;
+impl<W: Write + Drop> Write for Gathered<W> {
+    ghost use Rattle.std.specs.Prelude.{◌≡◌, ◌<◌, [], IfOk, OnOk, length, take};
+    ghost use Rattle.std.specs.Io.{WritesAtMost};
+    ghost use Rattle.std.specs.Io.KnownBytes.{Appends, Keeps};
+    ghost use Rattle.pieces.specs.Gathered.{handed};
+
+    // As many bytes as there is room for. Where there is none, what is gathered is written first.
+    fn write(&mut self, bytes: &[u8]) -> Result<usize>
+        ensures bound { WritesAtMost result bytes.now }
+        ensures some { IfOk result (λ n. 0 < length bytes.now → 0 < n) }
+        ensures added { IfOk result (λ n. Appends (handed W.contents self.old) (handed W.contents self.new) (take n bytes.now)) }
+    {
+        if self.bytes.is_full() {
+            self.flush()?;
+        }
+        self.bytes.write(bytes)
     }
-    Ok(next)
-}
 
-// A blank and the number's digits.
-pub fn number<W: Write>(to: &mut W, gathered: &mut [u8; ROOM], at: usize, n: u64) -> Result<usize> {
-    let mut digits = [0u8; 20];
-    let k = io::decimal(n, &mut digits);
-    let next = byte(to, gathered, at, b' ')?;
-    text(to, gathered, next, &digits[..k])
-}
-
-pub fn numbers<W: Write>(
-    to: &mut W,
-    gathered: &mut [u8; ROOM],
-    at: usize,
-    all: &[u64],
-) -> Result<usize> {
-    let mut next = at;
-    for i in 0..all.len() {
-        next = number(to, gathered, next, all[i])?;
+    // All that is gathered is written.
+    fn flush(&mut self) -> Result<()>
+        ensures kept { OnOk result (Keeps (handed W.contents self.old) (handed W.contents self.new)) }
+        ensures none { OnOk result (self.new.bytes.items ≡ []) }
+    {
+        self.to.write_all(self.bytes.as_slice())?;
+        self.bytes.clear();
+        Ok(())
     }
-    Ok(next)
-}
-
-fn write_first<W: Write>(to: &mut W, all: &[u8], n: usize) -> Result<()> {
-    if n <= all.len() {
-        to.write_all(&all[..n])?;
-    }
-    Ok(())
-}
-
-// The line's end; all that is gathered is written.
-pub fn end<W: Write>(to: &mut W, gathered: &mut [u8; ROOM], at: usize) -> Result<()> {
-    let n = byte(to, gathered, at, b'\n')?;
-    write_first(to, gathered, n)
 }
