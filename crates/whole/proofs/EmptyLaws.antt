@@ -37,7 +37,12 @@ empty_clear kind q due =
     (λ t. rw (code, t, le-ltb (kind / size_unit) 0 (omega arith)))
     (λ t. rw (code, t, not_fixed class small q, not_needed class small q)))
 
-pub empty_past : (kind : ℕ) (s : List ℕ) (i far : ℕ) → i < far → far ≤ length s → get_or s i 0 ≡ bar → (j : ℕ)
+pub empty_past : (kind : ℕ) → is_quick kind ≡ true → (s : List ℕ) (i far : ℕ) → i < far → far ≤ length s → get_or s i 0 ≡ bar
+    → Past kind s i far (i + 1)
+empty_past kind q s i far l within b =
+    record { on = omega arith; near = omega arith; whole = bar_last kind s i (omega arith) b (empty_clear kind q) }
+
+-- the same of what the code gives
+pub bar_at_once : (kind : ℕ) (s : List ℕ) (i far : ℕ) → i < far → far ≤ length s → get_or s i 0 ≡ bar → (j : ℕ)
     → (j ≡ i + 1) × (is_quick kind ≡ true) → Past kind s i far j × (is_quick kind ≡ true)
-empty_past kind s i far l within b j (is, q) =
-    (record { on = omega arith; near = omega arith; whole = rw is (bar_last kind s i (omega arith) b (empty_clear kind q)) }, q)
+bar_at_once kind s i far l within b j (is, q) = (rw is (empty_past kind q s i far l within b), q)

@@ -7,7 +7,7 @@ use Rattle.layout.specs.declared.kinds.Kind.{Kind}
 use Rattle.layout.proofs.NumberLaws.{class_within, class_is}
 use Rattle.whole.specs.Whole.{is_quick, Past}
 use Rattle.whole.proofs.PastLaws.{past_farther}
-use Rattle.whole.proofs.EmptyLaws.{empty_past}
+use Rattle.whole.proofs.EmptyLaws.{bar_at_once}
 use Rattle.whole.proofs.NumberLaws.{exact_past, any_past, date_past, cnpj_past, cpf_past}
 
 -- whether it can be passed is said by the class alone
@@ -23,4 +23,4 @@ of_class kind class size quick s i far h r past =
     IfSome_then r past (λ j p. (rw (class, size) (past_farther _ h p), quick_class kind ∙ ap (λ c. is_quick (class_number c)) class ∙ quick))
 
 -- what is said of a field, by its class
-pub ruleset field_laws = (of_class, empty_past, exact_past, any_past, date_past, cnpj_past, cpf_past)
+pub ruleset field_laws = (of_class, bar_at_once, exact_past, any_past, date_past, cnpj_past, cpf_past)
