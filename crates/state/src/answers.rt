@@ -16,7 +16,8 @@ pub struct Numbers {
     pub bytes: u64,
 }
 
-// Three enums and not one: `said`, `finally_said` and `report_said`, and the statements of Demands, name the variants of each.
+// Three enums and not one, and two structs of an answer and a state: `said`, `finally_said`, `report_said` and the statements of
+// Demands name each of them.
 
 // The answer to a piece.
 #[derive(Clone, Copy, PartialEq, Eq)]
@@ -69,24 +70,12 @@ pub struct Finished {
     pub state: State,
 }
 
-// Why a call is refused, whatever is in the file.
-#[derive(Clone, Copy, PartialEq, Eq)]
+// Why a call is refused, whatever is in the file, with the number of the refusal.
+#[derive(Clone, Copy)]
 enum CallRefusal {
-    Late,
-    NoRoom,
-    Damaged,
-}
-
-impl CallRefusal {
-    fn number(self) -> u64
-        ensures { result ≡ call_number self }
-    {
-        match self {
-            CallRefusal::Late => 17,
-            CallRefusal::NoRoom => 18,
-            CallRefusal::Damaged => 19,
-        }
-    }
+    Late = 17,
+    NoRoom = 18,
+    Damaged = 19,
 }
 
 const NOTHING: Numbers = Numbers {
@@ -115,7 +104,7 @@ impl Numbers {
         ensures { result ≡ numbers (call_number refusal) 0 0 0 0 0 }
     {
         Numbers {
-            refusal: refusal.number(),
+            refusal: refusal as u64,
             ..NOTHING
         }
     }

@@ -45,7 +45,7 @@ impl State {
     }
 
     // The final answer of a file whose pieces have all come. Before 9999's LF has come it is cut short.
-    #[tactic(auto, unfolding(crate::specs::Calls::final_answer_of))]
+    #[tactic(auto, unfolding(crate::specs::Calls::final_answer_of, crate::specs::Piece::kept_of))]
     fn final_answer(&self) -> FinalAnswer
         requires { self.now.hot.lines + 1 < 2 ^ 64 }
         ensures { result ≡ final_answer_of self.now }
@@ -58,11 +58,9 @@ impl State {
         }
         FinalAnswer::Refused(Numbers {
             refusal: Rule::CutShort.number(),
-            line: self.hot.lines + 1,
             field: 0,
             position: 0,
-            lines: self.hot.lines,
-            bytes: self.hot.bytes,
+            ..self.kept()
         })
     }
 

@@ -98,7 +98,7 @@ fn hot_ranged(hot: &Hot) -> bool
         & line_ranged(hot)
 }
 
-// The numbers of the rules that the bytes or their end can break.
+// The numbers of the rules that the bytes or their end can break. (What is stored is a number, which may be no rule's.)
 fn is_rule(n: u64) -> bool
     ensures { result ≡ is_rule n }
 {
