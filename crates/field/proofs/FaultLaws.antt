@@ -1,9 +1,8 @@
 -- What the bar finds, kind by kind, is what rules 10 to 13 and 24 say of the word; and the position of rule 10.
-use mathlib.Core.Path.{◌≡◌, ◌∙◌, refl, sym, ap}
+use mathlib.Core.Path.{◌≡◌, ◌∙◌, refl, ap}
 use mathlib.Core.Bool.{Bool, true, false, not, ◌&&◌, ◌||◌, and-true}
 use mathlib.Core.List.{List, [], ◌∷◌, reverse}
 use Prim.Native.Nat.{ℕ, suc, ◌+◌, ◌-◌, ◌*◌, ◌/◌, ◌%◌, ◌^◌, ◌<◌, ◌≤◌, min}
-use native.Mathlib.Nat.{add-mul-mod_self_left, mod-eq_of_lt, add-mul-div_left, div-eq_of_lt}
 use native.Mathlib.Omega.{arith}
 use lib.Dec.{eqb, leb, ltb, lit≤}
 use lib.ListN.{length}
@@ -36,10 +35,10 @@ Agrees k due w = fault_of (kind_number k) (field_after (kind_number k) w) due �
 
 -- a kind's class and size, from the number that holds both
 class_of : (c n : ℕ) → c < size_unit → (c + size_unit * n) % size_unit ≡ c
-class_of c n h = add-mul-mod_self_left c size_unit n ∙ mod-eq_of_lt h
+class_of c n h = omega arith
 
 size_of : (c n : ℕ) → c < size_unit → (c + size_unit * n) / size_unit ≡ n
-size_of c n h = add-mul-div_left c n {y = size_unit} (omega arith) ∙ ap (λ k. k + n) (div-eq_of_lt h) ∙ omega arith
+size_of c n h = omega arith
 
 fault_at : (c n : ℕ) (f : Field) (due : ℕ) → c < size_unit
     → fault_of (c + size_unit * n) f due ≡ pick (ltb c line_code_class) 0 (pick (is_text_class c) (text_fault c n f) (number_fault c n f due))

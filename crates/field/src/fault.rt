@@ -43,12 +43,12 @@ fn right_form(class: Class, f: Field) -> bool
 
 // Of most numbers the size is asked.
 #[tactic(auto, unfolding(crate::specs::Streaming::right_size, crate::specs::Streaming::is_exact))]
-fn right_size(class: Class, size: u64, length: u64) -> bool
-    ensures { result ≡ right_size (class_number class) size length }
+fn right_size(kind: Kind, length: u64) -> bool
+    ensures { result ≡ right_size (class_number kind.class) kind.size length }
 {
-    match class {
+    match kind.class {
         Class::Number | Class::Decimals | Class::Count => true,
-        _ => length == size,
+        _ => length == kind.size as u64,
     }
 }
 
@@ -67,15 +67,15 @@ fn content_fault(class: Class, value: u64, due: u64) -> Result<(), Rule>
 }
 
 #[tactic(auto, unfolding(crate::specs::Streaming::number_fault))]
-fn number_fault(class: Class, size: u64, f: Field, due: u64) -> Result<(), Rule>
-    ensures { broken result ≡ number_fault (class_number class) size f due }
+fn number_fault(kind: Kind, f: Field, due: u64) -> Result<(), Rule>
+    ensures { broken result ≡ number_fault (class_number kind.class) kind.size f due }
 {
     if f.length == 0 {
-        return empty_fault(class);
+        return empty_fault(kind.class);
     }
-    ensure(right_form(class, f), Rule::WrongCharacters)?;
-    ensure(right_size(class, size, f.length), Rule::WrongSize)?;
-    content_fault(class, f.value, due)
+    ensure(right_form(kind.class, f), Rule::WrongCharacters)?;
+    ensure(right_size(kind, f.length), Rule::WrongSize)?;
+    content_fault(kind.class, f.value, due)
 }
 
 // A text that is no longer than its size.
@@ -104,6 +104,6 @@ pub fn fault(kind: Kind, f: Field, due: u64) -> Result<(), Rule>
         Class::NoField | Class::Code => Ok(()),
         Class::LineCode | Class::Text => size_fault(size, f),
         Class::Lfpd | Class::Brasil => fixed_fault(size, f),
-        _ => number_fault(kind.class, size, f, due),
+        _ => number_fault(kind, f, due),
     }
 }
