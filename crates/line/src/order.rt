@@ -20,7 +20,7 @@ pub const ROW_9999: usize = ROWS - 1;
 // The lowest level of a data line.
 const DATA_LEVEL: u64 = 2;
 
-// What an opening says: data to come, or none.
+// What an opening says: data to come, or none. (Numbers, as `Hot` keeps them: see there.)
 pub const WITH_DATA: u64 = 1;
 
 pub const WITHOUT_DATA: u64 = 2;
