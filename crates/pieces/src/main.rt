@@ -12,7 +12,7 @@ use gathered::Gathered;
 use layout::rows::ROWS;
 use print::Line;
 use sef::State;
-use sef::answers::{Numbers, answer_numbers, final_numbers, report_numbers};
+use sef::answers::Numbers;
 use std::io::{Read, Result, Write};
 
 // The calls of a batch: where their answers go, and the state that they leave.
@@ -36,21 +36,19 @@ impl<W: Write + Drop> Batch<W> {
     }
 
     fn check(&mut self, piece: &[u8]) -> Result<()> {
-        let checked = sef::calls::check(self.state, piece);
-        self.state = checked.state;
-        self.answer("open", answer_numbers(checked.answer), &[])
+        let said = self.state.check(piece);
+        self.answer("open", said.into(), &[])
     }
 
     fn finish(&mut self) -> Result<()> {
-        let finished = sef::calls::finish(self.state);
-        self.state = finished.state;
-        self.answer("accepted", final_numbers(finished.answer), &[])
+        let said = self.state.finish();
+        self.answer("accepted", said.into(), &[])
     }
 
     // The counts stand in the answer where the report is not refused.
     fn report(&mut self) -> Result<()> {
         let mut counts = [0u64; ROWS];
-        let numbers = report_numbers(sef::calls::report(self.state, &mut counts));
+        let numbers = Numbers::from(self.state.report(&mut counts));
         let written: &[u64] = if numbers.refusal == 0 { &counts } else { &[] };
         self.answer("counts", numbers, written)
     }
@@ -58,14 +56,14 @@ impl<W: Write + Drop> Batch<W> {
     // A report with room for one count too few.
     fn report_without_room(&mut self) -> Result<()> {
         let mut counts = [0u64; ROWS - 1];
-        let numbers = report_numbers(sef::calls::report(self.state, &mut counts));
-        self.answer("counts", numbers, &[])
+        let said = self.state.report(&mut counts);
+        self.answer("counts", said.into(), &[])
     }
 
     fn obey(&mut self, command: Command<'_>) -> Result<()> {
         match command {
             Command::NewFile => {
-                self.state = sef::calls::start();
+                self.state = State::new();
                 Ok(())
             }
             Command::Piece(piece) => self.check(piece),
@@ -81,7 +79,7 @@ impl<W: Write + Drop> Batch<W> {
 fn obey_all<R: Read, W: Write + Drop>(from: &mut R, to: W) -> Result<()> {
     let mut batch = Batch {
         to,
-        state: sef::calls::start(),
+        state: State::new(),
     };
     let mut block = [0u8; LARGEST];
     for _ in 0..u64::MAX {

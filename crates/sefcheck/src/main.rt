@@ -14,10 +14,8 @@ use std::io::{Read, Write};
 use words::{Detail, LARGEST, Wanted};
 
 // The answer, and the lines of the state that are asked for beside it.
-fn finish<W: Write>(to: &mut W, s: State, detail: Detail) -> io::Result<()> {
-    let finished = sef::calls::finish(s);
-    let state = &finished.state;
-    print::answer(to, sef::answers::final_numbers(finished.answer))?;
+fn finish<W: Write>(to: &mut W, state: &mut State, detail: Detail) -> io::Result<()> {
+    print::answer(to, state.finish().into())?;
     match detail {
         Detail::Answer => Ok(()),
         Detail::Blocks => print::blocks(to, state),
@@ -39,14 +37,14 @@ fn read_piece<R: Read>(from: &mut R, block: &mut [u8], size: usize) -> io::Resul
 
 // A proved loop has to end, and nothing says that the input does: so the pieces are counted, up to a number that no run reaches.
 fn check_input<R: Read, W: Write>(from: &mut R, to: &mut W, wanted: Wanted) -> io::Result<()> {
-    let mut state = sef::calls::start();
+    let mut state = State::new();
     let mut block = [0u8; LARGEST];
     for _ in 0..u64::MAX {
         let n = read_piece(from, &mut block, wanted.size)?;
         if n == 0 {
-            return finish(to, state, wanted.detail);
+            return finish(to, &mut state, wanted.detail);
         }
-        state = sef::calls::check(state, &block[..n]).state;
+        state.check(&block[..n]);
     }
     Ok(())
 }

@@ -1,4 +1,5 @@
 // What is printed: a line for each number, as name=number.
+use layout::blocks::letter_at;
 use layout::parents::parent_at;
 use layout::rows::{ROWS, code_at};
 use sef::State;
@@ -30,8 +31,8 @@ pub fn answer<W: Write>(to: &mut W, n: Numbers) -> io::Result<()> {
 
 // Of each block its lines ended.
 pub fn blocks<W: Write>(to: &mut W, s: &State) -> io::Result<()> {
-    for (letter, lines) in layout::blocks::letters().iter().zip(&s.tally.totals) {
-        writeln!(to, "block {}={lines}", char::from(*letter))?;
+    for (x, lines) in s.tally.totals.iter().enumerate() {
+        writeln!(to, "block {}={lines}", char::from(letter_at(x)))?;
     }
     Ok(())
 }
@@ -45,11 +46,10 @@ fn row<W: Write>(to: &mut W, word: &str, code: u64, n: u64) -> io::Result<()> {
 
 // Of each row its lines ended, as a report has them.
 pub fn rows<W: Write>(to: &mut W, s: &State) -> io::Result<()> {
-    let rows = row_table::table();
     let mut counts = [0u64; ROWS];
-    let _answer = sef::calls::report(*s, &mut counts);
+    s.report(&mut counts);
     for (r, lines) in counts.iter().enumerate() {
-        row(to, "row ", code_at(&rows, r), *lines)?;
+        row(to, "row ", code_at(r), *lines)?;
     }
     Ok(())
 }
@@ -57,15 +57,13 @@ pub fn rows<W: Write>(to: &mut W, s: &State) -> io::Result<()> {
 // The open lines, by their number in the file: the last line ended and its ancestors up to the opening. Of an open row it is the last
 // line.
 pub fn open_lines<W: Write>(to: &mut W, s: &State) -> io::Result<()> {
-    let rows = row_table::table();
-    let parents = layout::parents::table();
     let mut r = s.hot.last;
     for _ in 0..DEEPEST {
         if r >= ROWS {
             break;
         }
-        row(to, "open ", code_at(&rows, r), s.tally.stamps[r])?;
-        r = parent_at(&parents, r);
+        row(to, "open ", code_at(r), s.tally.stamps[r])?;
+        r = parent_at(r);
     }
     Ok(())
 }
