@@ -5,8 +5,7 @@ ghost use Rattle.layout.specs.Rows.{row_count, none};
 ghost use Rattle.rules.specs.Rules.{byte_limit};
 ghost use Rattle.whole.specs.Whole.{longest, margin};
 ghost use Rattle.layout.specs.Silent.{is_silent};
-ghost use Rattle.line.specs.Machine.{Below};
-ghost use Rattle.line.specs.Tally.{Held};
+ghost use Rattle.line.specs.Tally.{Countable, Held};
 ghost use Rattle.run.specs.Places.{Placed, HasCode, Follows, Headed, Fielded, EndsHere, next_line, counted_with, safe_of, Along, Onward};
 
 use crate::place::{Place, begins, is_silent};
@@ -103,7 +102,7 @@ fn ends_here(s: &[u8], p: Place) -> bool
 fn count_line(tally: &mut Tally, p: Place)
     requires limit { p.lines ≤ byte_limit }
     requires silent { is_silent p.row ≡ true }
-    requires below { Below (byte_limit + 1) tally.old.counts × Below (byte_limit + 1) tally.old.occurrences × Below (byte_limit + 1) tally.old.totals }
+    requires below { Countable tally.old }
     ensures { tally.new ≡ counted_with tally.old p.row (p.lines + 1) }
 {
     tally.count(p.row, p.lines + 1);
