@@ -1,4 +1,4 @@
-// What changes with each byte: scalars of one width only, so that the byte loop keeps them in registers.
+// What changes with each byte: numbers of one width, apart from the arrays that only the end of a line changes.
 use field::bytes::Field;
 use layout::kinds::{Class, Kind};
 

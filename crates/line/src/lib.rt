@@ -1,4 +1,4 @@
-// One line as it streams through: where it can stand, its fields, its end; byte by byte.
+// One line as it streams through: where it can stand, its fields, its end, byte by byte; and what is kept of the lines ended.
 #![tactic(auto)]
 
 pub mod hot;
