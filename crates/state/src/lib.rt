@@ -61,7 +61,7 @@ impl State {
 
     // The refusal that is kept: it is one in the line at hand.
     #[tactic(auto, unfolding(crate::specs::Piece::kept_of))]
-    pub fn kept(&self) -> Numbers
+    fn kept(&self) -> Numbers
         requires { self.now.hot.lines + 1 < 2 ^ 64 }
         ensures { result ≡ kept_of self.now }
     {
@@ -77,7 +77,7 @@ impl State {
 
     // A piece ends in this line: nothing is refused so far.
     #[tactic(auto, unfolding(crate::specs::Piece::open_of))]
-    pub fn open(&mut self, line: &Line) -> Answer
+    fn open(&mut self, line: &Line) -> Answer
         ensures { checked result self.new ≡ open_of line.now.hot self.old.tally }
     {
         self.hot = line.hot;
@@ -90,7 +90,7 @@ impl State {
 
     // A byte has broken a rule in this line: it is judged, and changes nothing else.
     #[tactic(auto, unfolding(crate::specs::Piece::stopped_of, crate::specs::Piece::kept_of))]
-    pub fn stop(&mut self, line: &Line, refusal: Refusal) -> Answer
+    fn stop(&mut self, line: &Line, refusal: Refusal) -> Answer
         ensures { checked result self.new ≡ stopped_of line.now.hot self.old.tally (rule_number refusal.rule) refusal.field }
     {
         self.hot = line.hot;
