@@ -61,21 +61,21 @@ module _ {s : List ℕ} {before : ℕ} {p : Place} {t : Tally} {q : Place} {u : 
         passes = passes_join a.passes passes;
       }
 
-  pub along_head : {r : Place} → q.at < safe_of before (length s) → Headed s u q r → Along s before p t r u
+  along_head : {r : Place} → q.at < safe_of before (length s) → Headed s u q r → Along s before p t r u
   along_head l h =
       let fits = safe_length before (length s) in
       let limit = safe_limit before (length s) in
       along_on h.placed h.on (omega (arith, h.near)) (h.passes before (omega arith))
 
-  pub along_fields : {r : Place} → 0 < safe_of before (length s) → Fielded s (safe_of before (length s)) q r
+  along_fields : {r : Place} → 0 < safe_of before (length s) → Fielded s (safe_of before (length s)) q r
       → Along s before p t r u
   along_fields l f =
       let fits = safe_length before (length s) in
       along_on f.placed f.on (omega (arith, f.near)) (f.passes before _ (safe_limit before (length s)))
 
-  pub along_end : 0 < safe_of before (length s) → q.at < safe_of before (length s) + longest → q.row < row_count → EndsHere s q
+  pub along_end : {safe : ℕ} → safe ≡ safe_of before (length s) → 0 < safe → q.at < safe + longest → q.row < row_count → EndsHere s q
       → Along s before p t (next_line q) (counted_with u q.row (q.lines + 1))
-  along_end l near row ends =
+  along_end is l near row ends =
       let fits = safe_length before (length s) in
       let limit = safe_limit before (length s) in
       let silent = a.placed.silent row in
@@ -90,6 +90,13 @@ module _ {s : List ℕ} {before : ℕ} {p : Place} {t : Tally} {q : Place} {u : 
       (omega arith)
       (omega arith)
       (end_passes s q row silent ends (omega arith) before (omega arith) u)
+
+-- over the head of a line, if the place is at one, and over its fields
+pub along_line : {s : List ℕ} {before : ℕ} {p : Place} {t : Tally} {q : Place} {u : Tally} {r f : Place} {safe : ℕ}
+    → Along s before p t q u → AllBytes s → safe ≡ safe_of before (length s) → q.at < safe → Headed s u q r → Fielded s safe r f
+    → Along s before p t f u
+along_line a all is l h fields =
+    let near = rw is at l in along_fields all (along_head all a near h) (omega (arith, near)) (rw is at fields)
 
 -- The whole way from a state: it starts at the state's place, if it is at one, and ends at a place's state.
 module _ (s : List ℕ) (i : ℕ) (h : Hot) (within : i ≤ length s) (known : i ≤ h.bytes) (t : Tally) where

@@ -1,11 +1,10 @@
 use Prim.Native.Nat.{◌<◌}
-use mathlib.Core.Path.{◌≡◌, ◌∙◌}
 use native.Mathlib.Omega.{arith}
 use lib.ListN.{length}
 use Rattle.layout.specs.Rows.{row_count}
 use Rattle.rules.specs.Bytes.{AllBytes}
 use Rattle.line.proofs.HeldLaws.{held_small}
-use Rattle.run.proofs.AlongLaws.{safe_length, place_fit, place_within, along_head, along_fields, along_end}
+use Rattle.run.proofs.AlongLaws.{safe_length, place_fit, place_within, along_line, along_end}
 use Rattle.run.proofs.lines.lines_past.Goals as goal
 
 pub begun-requires : goal.begun-requires
@@ -31,19 +30,16 @@ ends_here-requires c =
 
 pub returns-then-not-ends_here : goal.returns-then-not-ends_here
 returns-then-not-ends_here c =
-    let known : AllBytes c.args.s.now = λ k. (c.type_inv.s k).fits in
-    let here = rw c.safe_of-safe.ensures at c.loop-p-test.true in
-    let fields = rw c.safe_of-safe.ensures at c.fields_past-p.ensures in
-    along_fields known (along_head known c.loop-p.invariant here c.in-Some.ensures) (omega (arith, here)) fields
+    along_line c.loop-p.invariant (λ k. (c.type_inv.s k).fits) c.safe_of-safe.ensures c.loop-p-test.true c.in-Some.ensures
+    c.fields_past-p.ensures
 
 pub count_line-requires-clause-limit : goal.count_line-requires-clause-limit
 count_line-requires-clause-limit c =
-    let known : AllBytes c.args.s.now = λ k. (c.type_inv.s k).fits in
-    let here = rw c.safe_of-safe.ensures at c.loop-p-test.true in
-    let fields = rw c.safe_of-safe.ensures at c.fields_past-p.ensures in
-    let headed = along_head known c.loop-p.invariant here c.in-Some.ensures in
-    let held = (along_fields known headed (omega (arith, here)) fields).held in
-    omega (arith, (place_fit _ _ held.fit).lines, place_within _ _ held)
+    let line =
+    along_line c.loop-p.invariant (λ k. (c.type_inv.s k).fits) c.safe_of-safe.ensures c.loop-p-test.true c.in-Some.ensures
+    c.fields_past-p.ensures
+    in
+    omega (arith, (place_fit _ _ line.held.fit).lines, place_within _ _ line.held)
 
 pub count_line-requires-clause-silent : goal.count_line-requires-clause-silent
 count_line-requires-clause-silent c =
@@ -55,22 +51,21 @@ count_line-requires-clause-below c = held_small _ _ c.loop-p.invariant.held
 
 pub end_past-p-requires : goal.end_past-p-requires
 end_past-p-requires c =
-    let known : AllBytes c.args.s.now = λ k. (c.type_inv.s k).fits in
-    let here = rw c.safe_of-safe.ensures at c.loop-p-test.true in
-    let fields = rw c.safe_of-safe.ensures at c.fields_past-p.ensures in
-    let headed = along_head known c.loop-p.invariant here c.in-Some.ensures in
-    let held = (along_fields known headed (omega (arith, here)) fields).held in
-    let fit = place_fit _ _ held.fit in
-    let within = place_within _ _ held in
+    let line =
+    along_line c.loop-p.invariant (λ k. (c.type_inv.s k).fits) c.safe_of-safe.ensures c.loop-p-test.true c.in-Some.ensures
+    c.fields_past-p.ensures
+    in
+    let fit = place_fit _ _ line.held.fit in
+    let within = place_within _ _ line.held in
     (omega (arith, within), omega (arith, fit.lines, within), omega (arith, fit.since, within))
 
 pub loop-p-preserved : goal.loop-p-preserved
 loop-p-preserved c =
-    let known : AllBytes c.args.s.now = λ k. (c.type_inv.s k).fits in
-    let here = rw c.safe_of-safe.ensures at c.loop-p-test.true in
-    let fields = rw c.safe_of-safe.ensures at c.fields_past-p.ensures in
-    let headed = along_head known c.loop-p.invariant here c.in-Some.ensures in
-    let fielded = along_fields known headed (omega (arith, here)) fields in
-    let row : c.fields_past-p.result.row < row_count = omega (arith, headed.placed.row, c.in-Some.ensures.inside, fields.row) in
+    let all : AllBytes c.args.s.now = λ k. (c.type_inv.s k).fits in
+    let head = c.in-Some.ensures in
+    let fields = c.fields_past-p.ensures in
+    let line = along_line c.loop-p.invariant all c.safe_of-safe.ensures c.loop-p-test.true head fields in
+    let row : c.fields_past-p.result.row < row_count = omega (arith, head.inside, fields.row) in
     let ends = c.ends_here.ensures c.if-not-ends_here.false in
-    rw (c.end_past-p.ensures, c.count_line.ensures) (along_end known fielded (omega (arith, here)) fields.near row ends)
+    rw (c.end_past-p.ensures, c.count_line.ensures)
+    (along_end all line c.safe_of-safe.ensures (omega (arith, c.loop-p-test.true)) fields.near row ends)
