@@ -1,7 +1,7 @@
 -- Of a number with d decimals: the kept value says how many are still to come, nothing is wrong while the bytes so far can go on;
 -- and where nothing is wrong, none is to come exactly if the word is such a number.
 use mathlib.Core.Path.{◌≡◌, ◌∙◌, refl, sym, ap}
-use mathlib.Core.Bool.{Bool, true, false, not, ◌&&◌, ◌||◌}
+use mathlib.Core.Bool.{Bool, true, false, not, ◌&&◌, ◌||◌, and-false}
 use mathlib.Core.List.{List, [], ◌∷◌}
 use mathlib.Core.Logic.{⊎_elim}
 use Prim.Native.Nat.{ℕ, zero, suc, ◌+◌, ◌-◌, ◌≤◌}
@@ -15,7 +15,8 @@ use Rattle.rules.specs.Fields.{is_digit, all_digits, is_decimal, begins_decimal,
 use Rattle.rules.specs.Position.{position}
 use Rattle.field.specs.declared.bytes.Field.{Field}
 use Rattle.field.specs.Streaming.{wrong_at, wrong_with, comma_fits, digit_fits, decimal_with, with_byte, field_after}
-use Rattle.rules.proofs.TestLaws.{split, both, and_left, and-false}
+use Rattle.std.proofs.lemmas.Bool.{and_parts}
+use Rattle.rules.proofs.TestLaws.{split, both}
 use Rattle.rules.proofs.DecimalLaws.{comma_first, decimal_first, digits_first, digits_no_decimal, one_number}
 use Rattle.rules.proofs.DecimalLaws.{SomeDecimals, begins_parts, digits_begin, decimals_begin, begins_before}
 use Rattle.field.proofs.LengthLaws.{length_is}
@@ -32,11 +33,11 @@ ends_there : (d b : ℕ) (w : List ℕ) → is_digit b ≡ false → is_decimal 
 ends_there d b w t c = split (begins_decimal d (b ∷ w)) (λ e. ⊎_elim digits some (begins_parts d (b ∷ w) e)) (λ e. e)
   where
     digits : all_digits (b ∷ w) ≡ true → begins_decimal d (b ∷ w) ≡ false
-    digits e = both (and_left (is_digit b) (all_digits w) (sym (digits_first b w) ∙ e)) t
+    digits e = both (and_parts (is_digit b) (all_digits w) (sym (digits_first b w) ∙ e)).0 t
 
     some : SomeDecimals d (b ∷ w) → begins_decimal d (b ∷ w) ≡ false
     some (zero, h, e) = both e c
-    some (suc n, h, e) = both (and_left (is_digit b) (is_decimal n w) (sym (decimal_first b n w) ∙ e)) t
+    some (suc n, h, e) = both (and_parts (is_digit b) (is_decimal n w) (sym (decimal_first b n w) ∙ e)).0 t
 
 -- one decimal too many
 too_many : (d : ℕ) (w : List ℕ) → is_decimal (suc d) w ≡ true → begins_decimal d w ≡ false

@@ -12,7 +12,8 @@ use Rattle.rules.specs.Fields.{Form, is_digit, all_digits, value}
 use Rattle.rules.specs.Position.{position}
 use Rattle.field.specs.declared.bytes.Field.{Field}
 use Rattle.field.specs.Streaming.{cap, wrong_at, value_with, digit_with, with_byte, field_after}
-use Rattle.rules.proofs.TestLaws.{and_left, and_right, same_test}
+use Rattle.std.proofs.lemmas.Bool.{and_parts}
+use Rattle.rules.proofs.TestLaws.{same_test}
 use Rattle.rules.proofs.DecimalLaws.{digits_first}
 use Rattle.field.proofs.WrongLaws.{Marked, marked_on, marked_right, marked_at}
 
@@ -44,15 +45,15 @@ module _ (kind : ℕ) (on : (f : Field) (b : ℕ) → with_byte kind f b ≡ dig
 
 pub digit_below : (b : ℕ) → is_digit b ≡ true → b - 48 < 10
 unfolding is_digit
-digit_below b e = let h = leb-true b 57 (and_right (leb 48 b) (leb b 57) e) in omega arith
+digit_below b e = let h = leb-true b 57 (and_parts (leb 48 b) (leb b 57) e).1 in omega arith
 
 -- n digits have a value below 10 ^ n
 pub value_below : (w : List ℕ) → all_digits w ≡ true → value w < 10 ^ length w
 unfolding all_digits value
 value_below [] e = omega arith
 value_below (b ∷ w) e =
-    let h = digit_below b (and_left (is_digit b) (all_digits w) e) in
-    let r = value_below w (and_right (is_digit b) (all_digits w) e) in
+    let h = digit_below b (and_parts (is_digit b) (all_digits w) e).0 in
+    let r = value_below w (and_parts (is_digit b) (all_digits w) e).1 in
     let s : value w * 10 + (b - 48) < 10 ^ suc (length w) = omega arith in
     s
 

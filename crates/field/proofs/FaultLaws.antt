@@ -22,7 +22,8 @@ use Rattle.field.specs.Streaming.{cap, wrong_at, digit_with, text_with, decimal_
 use Rattle.field.specs.Streaming.{field_after, empty_fault, right_form, is_exact, right_size, digits_fault, content_fault}
 use Rattle.field.specs.Streaming.{number_fault, text_fault, is_text_class, fault_of}
 use Rattle.field.specs.Ruled.{ruled}
-use Rattle.rules.proofs.TestLaws.{split, both, and_left}
+use Rattle.std.proofs.lemmas.Bool.{and_parts}
+use Rattle.rules.proofs.TestLaws.{split, both}
 use Rattle.field.proofs.LengthLaws.{length_is}
 use Rattle.field.proofs.DigitLaws.{digits_right, digits_position, digits_value, value_below, capped_is}
 use Rattle.field.proofs.CheckDigitLaws.{digits_are}
@@ -214,7 +215,7 @@ zero_or_one b h =
 one_digit : (b : ℕ) (w : List ℕ) → all_digits (b ∷ w) ≡ true → eqb (suc (length w)) 1 ≡ true
     → leb (min cap (value (b ∷ w))) 1 ≡ (is_text "0" (b ∷ w) || is_text "1" (b ∷ w))
 unfolding is_digit all_digits value is_text same_bytes bytes
-one_digit b [] p q = zero_or_one b (leb-true 48 b (and_left (leb 48 b) (leb b 57) (and_left (is_digit b) true p)))
+one_digit b [] p q = zero_or_one b (leb-true 48 b (and_parts (leb 48 b) (leb b 57) (and_parts (is_digit b) true p).0).0)
 one_digit b (c ∷ w) p q = absurd (let e = eqb-true (suc (suc (length w))) 1 q in omega arith)
 
 opens_bar : (due : ℕ) (w : List ℕ) → Agrees opens due w

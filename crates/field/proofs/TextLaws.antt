@@ -11,7 +11,7 @@ use borrow.Author.Tests.{eqb-true, eqb-false, eq-eqb}
 use Rattle.rules.specs.Fields.{same_bytes}
 use Rattle.field.specs.declared.bytes.Field.{Field}
 use Rattle.field.specs.Streaming.{matches, text_with, is_fixed, with_byte, field_after}
-use Rattle.rules.proofs.TestLaws.{and_left, and_right}
+use Rattle.std.proofs.lemmas.Bool.{and_parts}
 use Rattle.field.proofs.LengthLaws.{length_is}
 use Rattle.field.proofs.WrongLaws.{right_on}
 
@@ -31,7 +31,7 @@ same_eq [] [] e = refl
 same_eq [] (c ∷ cs) e = search e
 same_eq (b ∷ bs) [] e = search e
 same_eq (b ∷ bs) (c ∷ cs) e =
-    ap₂ ◌∷◌ (eqb-true b c (and_left (eqb b c) (same_bytes bs cs) e)) (same_eq bs cs (and_right (eqb b c) (same_bytes bs cs) e))
+    ap₂ ◌∷◌ (eqb-true b c (and_parts (eqb b c) (same_bytes bs cs) e).0) (same_eq bs cs (and_parts (eqb b c) (same_bytes bs cs) e).1)
 
 one_more : (text : List ℕ) (k : ℕ) → k < length text → reverse (take (suc k) text) ≡ get_or text k 256 ∷ reverse (take k text)
 one_more text k h = ap reverse (take-suc text k 256 h) ∙ reverse-append (take k text) (get_or text k 256 ∷ [])
@@ -40,8 +40,8 @@ fits_take : (text w : List ℕ) → length w ≤ length text → fits text w ≡
 unfolding fits matches
 fits_take text [] h e = refl
 fits_take text (b ∷ w) h e =
-    let p = and_left (matches text (length w) b) (fits text w) e in
-    let q = and_right (matches text (length w) b) (fits text w) e in
+    let p = (and_parts (matches text (length w) b) (fits text w) e).0 in
+    let q = (and_parts (matches text (length w) b) (fits text w) e).1 in
     ap₂ ◌∷◌ (sym (eqb-true (get_or text (length w) 256) b p)) (fits_take text w (omega arith) q)
     ∙ sym (one_more text (length w) (omega arith))
 

@@ -18,7 +18,8 @@ use Rattle.layout.specs.Packed.{kind_number}
 use Rattle.layout.proofs.PeriodLaws.{has_period, later_inside, date_kind_lem, dates_order}
 use Rattle.rules.specs.Bytes.{empty}
 use Rattle.rules.specs.Fields.{is_digit, all_digits, value, days_of, is_date, same_bytes, form_of}
-use Rattle.rules.proofs.TestLaws.{same_test, and_left, and_right, then_holds}
+use Rattle.std.proofs.lemmas.Bool.{and_parts}
+use Rattle.rules.proofs.TestLaws.{same_test, then_holds}
 use Rattle.rules.proofs.SoundLaws.{Passed}
 use Rattle.field.specs.Streaming.{cap, with_byte, field_after}
 use Rattle.field.specs.Ruled.{ruled}
@@ -118,7 +119,7 @@ module _ (w : List ℕ) (d : DateWord w) where
       let from = leb 1900 (n % 10000) in
       let to = leb (n % 10000) 2099 in
       let real : (day && month && from && to) ≡ true = rw (not-true (empty w) some) at d.real in
-      let year = leb-true 1900 (n % 10000) (and_right (day && month) from (and_left (day && month && from) to real)) in
+      let year = leb-true 1900 (n % 10000) (and_parts (day && month) from (and_parts (day && month && from) to real).0).1 in
       omega (arith, mod-le n 10000)
 
 -- Digits of one length go by their value.
@@ -133,8 +134,8 @@ last_digit x y c d hc hd = go (ℕ_discrete c d) (ℕ_discrete x y)
 same_digit : (b c : ℕ) → is_digit b ≡ true → is_digit c ≡ true → eqb b c ≡ eqb (b - 48) (c - 48)
 unfolding is_digit
 same_digit b c hb hc =
-    let lb = leb-true 48 b (and_left (leb 48 b) (leb b 57) hb) in
-    let lc = leb-true 48 c (and_left (leb 48 c) (leb c 57) hc) in
+    let lb = leb-true 48 b (and_parts (leb 48 b) (leb b 57) hb).0 in
+    let lc = leb-true 48 c (and_parts (leb 48 c) (leb c 57) hc).0 in
     same_test b c (b - 48) (c - 48) (λ e. omega arith) (λ e. omega arith)
 
 same_digits : (v w : List ℕ) → all_digits v ≡ true → all_digits w ≡ true → length v ≡ length w → same_bytes v w ≡ eqb (value v) (value w)
@@ -143,10 +144,10 @@ same_digits [] [] p q e = refl
 same_digits [] (c ∷ w) p q e = absurd (omega arith)
 same_digits (b ∷ v) [] p q e = absurd (omega arith)
 same_digits (b ∷ v) (c ∷ w) p q e =
-    let hb = and_left (is_digit b) (all_digits v) p in
-    let hc = and_left (is_digit c) (all_digits w) q in
+    let hb = (and_parts (is_digit b) (all_digits v) p).0 in
+    let hc = (and_parts (is_digit c) (all_digits w) q).0 in
     rw (
-      same_digits v w (and_right (is_digit b) (all_digits v) p) (and_right (is_digit c) (all_digits w) q) (omega arith),
+      same_digits v w (and_parts (is_digit b) (all_digits v) p).1 (and_parts (is_digit c) (all_digits w) q).1 (omega arith),
       same_digit b c hb hc,
       last_digit (value v) (value w) (b - 48) (c - 48) (digit_below b hb) (digit_below c hc),
     )

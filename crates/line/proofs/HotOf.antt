@@ -1,6 +1,6 @@
 -- The state that the bytes received stand for, and what one more byte does to it.
 use mathlib.Core.Path.{◌≡◌, ◌∙◌, refl, sym, ap}
-use mathlib.Core.Bool.{Bool, true, false, ◌&&◌, ◌||◌, or-true}
+use mathlib.Core.Bool.{Bool, true, false, ◌&&◌, ◌||◌, or-true, and-false}
 use mathlib.Core.List.{List, [], ◌∷◌}
 use mathlib.Core.Logic.{◌⊎◌, inl, inr}
 use Prim.Native.Nat.{ℕ, suc, ◌+◌, ◌*◌, ◌%◌, ◌<◌, ◌≤◌, min}
@@ -22,7 +22,7 @@ use Rattle.rules.specs.Bytes.{bars, word}
 use Rattle.rules.specs.Order.{last}
 use Rattle.rules.specs.Fields.{value, is_text}
 use Rattle.rules.specs.Rules.{row_to_be}
-use Rattle.rules.proofs.TestLaws.{split, both, and-false}
+use Rattle.rules.proofs.TestLaws.{split, both}
 use Rattle.layout.proofs.RoleLaws.{fields_none, opening_9900, fields_9900, kinds_9900}
 use Rattle.layout.proofs.RowLaws.{fields_most}
 use Rattle.layout.proofs.KindLaws.{opens_kind}

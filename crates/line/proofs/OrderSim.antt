@@ -1,6 +1,6 @@
 -- Rules 4 to 6 at the state of the bytes received: where a line can stand, what the line before said, and room under one parent.
 use mathlib.Core.Path.{◌≡◌, ◌∙◌, refl, sym}
-use mathlib.Core.Bool.{true, false, ◌&&◌, ◌||◌}
+use mathlib.Core.Bool.{true, false, ◌&&◌, ◌||◌, and-false}
 use mathlib.Core.List.{List, [], ◌∷◌, map}
 use Prim.Native.Nat.{ℕ, ◌+◌, ◌*◌, ◌<◌, ◌≤◌}
 use lib.Dec.{eqb, ltb}
@@ -13,7 +13,8 @@ use Rattle.rules.specs.Bytes.{lines, rows, row_of, row_of_word, field, bars}
 use Rattle.rules.specs.Order.{last, can_stand, starts_file, starts_block, ends_file, has_room, under_parent, last_number, is_data}
 use Rattle.rules.specs.Fields.{same_bytes, is_text}
 use Rattle.rules.specs.Rules.{opened_by}
-use Rattle.rules.proofs.TestLaws.{split, and_left, and-false}
+use Rattle.std.proofs.lemmas.Bool.{and_parts}
+use Rattle.rules.proofs.TestLaws.{split}
 use Rattle.rules.proofs.Stood.{Stood}
 use Rattle.rules.proofs.AllRows.{AllRows, stood_rows}
 use Rattle.layout.proofs.RoleLaws.{data_level}
@@ -48,7 +49,7 @@ stands_is before s r row =
 one_text : (w : List ℕ) → is_text "0" w ≡ true → is_text "1" w ≡ false
 unfolding is_text same_bytes bytes
 one_text [] e = refl
-one_text (b ∷ []) e = rw (eqb-true b 48 (and_left (eqb b 48) true e))
+one_text (b ∷ []) e = rw (eqb-true b 48 (and_parts (eqb b 48) true e).0)
 one_text (b ∷ c ∷ w) e = and-false (eqb b 49)
 
 -- an opening's field 2, which is one of them

@@ -21,7 +21,8 @@ use Rattle.rules.specs.Bytes.{field, row_of, empty}
 use Rattle.rules.specs.Counts.{lines_of_row, counts_of_rows}
 use Rattle.rules.specs.Fields.{value, same_bytes}
 use Rattle.rules.specs.Periods.{same_pair, seen_before, most_pairs}
-use Rattle.rules.proofs.TestLaws.{split, and_right}
+use Rattle.std.proofs.lemmas.Bool.{and_parts}
+use Rattle.rules.proofs.TestLaws.{split}
 use Rattle.rules.proofs.Stood.{Stood}
 use Rattle.rules.proofs.AllRows.{AllRows}
 use Rattle.rules.proofs.CountLaws.{lines_here, lines_past, counts_at}
@@ -218,7 +219,7 @@ module _ (r : ℕ) (known : r < row_count) (p : has_period r ≡ true) (v : ℕ)
         split (keeps (row_of x) (line_number (row_of x) before))
         (λ t. rw t
         (ap (λ k. not (eqb k v)) (get_or-set_other (pairs_of before) (pair_start (row_of x) + line_number (row_of x) before) (pair_start r + i) (pair_of x) 0
-        (λ e. apart (ltb-true _ _ (and_right (has_period (row_of x)) (ltb (line_number (row_of x) before) most_pairs) t)) e))))
+        (λ e. apart (ltb-true _ _ (and_parts (has_period (row_of x)) (ltb (line_number (row_of x) before) most_pairs) t).1) e))))
         (λ t. rw t)
       where
         apart : line_number (row_of x) before < most_pairs → pair_start r + i ≡ pair_start (row_of x) + line_number (row_of x) before → ⊥

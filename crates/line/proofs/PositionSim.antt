@@ -13,7 +13,8 @@ use Rattle.layout.specs.Kinds.{kind}
 use Rattle.rules.specs.Bytes.{bar, row_at_hand, bars, word, empty}
 use Rattle.rules.specs.Fields.{form_of}
 use Rattle.rules.specs.Rules.{Fault, clear, breaks, rules, first_broken, fault_by, fault, form_at_hand, control_byte, wrong_byte}
-use Rattle.rules.proofs.TestLaws.{split, both, and_right, or_left, or_right}
+use Rattle.std.proofs.lemmas.Bool.{and_parts, or_left, or_right}
+use Rattle.rules.proofs.TestLaws.{split, both}
 use Rattle.rules.proofs.FaultLaws.{Place, starts, codes, fills, ends, place, code_fault, field_fault, byte_fault, end_fault}
 use Rattle.rules.proofs.FaultLaws.{fault_start, fault_code, fault_field, fault_past}
 use Rattle.field.proofs.FaultLaws.{position_is_lem}
@@ -54,7 +55,7 @@ module _ (seen : List ℕ) where
       let k = kind (row_at_hand seen) (bars seen) in
       let w = word seen in
       at {n = 10} {f = f}
-      (position_is_lem k w (not-true ((form_of k).characters w) (and_right (not (empty w)) (not ((form_of k).characters w)) e)))
+      (position_is_lem k w (not-true ((form_of k).characters w) (and_parts (not (empty w)) (not ((form_of k).characters w)) e).1))
 
   field_told : Told (field_fault seen)
   field_told =

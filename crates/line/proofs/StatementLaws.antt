@@ -1,6 +1,6 @@
 -- What 9900 lines state: of each row, and of no row, one number tells all statements of it; and together they tell rule 23.
 use mathlib.Core.Path.{◌≡◌, ◌∙◌, refl, sym, ap}
-use mathlib.Core.Bool.{Bool, true, false, not, ◌&&◌, ◌||◌, and-true, and_assoc}
+use mathlib.Core.Bool.{Bool, true, false, not, ◌&&◌, ◌||◌, and-true, and_assoc, and-false}
 use mathlib.Core.List.{List, [], ◌∷◌, map}
 use Prim.Native.Nat.{ℕ, zero, suc, ◌+◌, ◌<◌, ◌≤◌, min, zero-le, suc-le-suc}
 use native.Mathlib.Omega.{arith}
@@ -22,7 +22,7 @@ use Rattle.rules.specs.Bytes.{field, row_of, row_of_word, empty}
 use Rattle.rules.specs.Counts.{lines_of_row, counts_of_rows}
 use Rattle.rules.specs.Fields.{value, states}
 use Rattle.rules.specs.Statements.{occurs, is_true, all_true}
-use Rattle.rules.proofs.TestLaws.{split, same_test, pick_le, and-false}
+use Rattle.rules.proofs.TestLaws.{split, same_test, pick_le}
 use Rattle.field.specs.Streaming.{cap, with_byte, field_after}
 use Rattle.field.specs.declared.bytes.Field.{Field}
 use Rattle.field.proofs.LengthLaws.{length_is}

@@ -1,12 +1,12 @@
 -- The numbers of rules: none of them is a call's.
 use mathlib.Core.Path.{◌≡◌}
-use mathlib.Core.Bool.{true, ◌||◌, or-true}
+use mathlib.Core.Bool.{true, ◌||◌, or-true, and-false}
 use Prim.Native.Nat.{ℕ, ◌≤◌}
 use native.Mathlib.Omega.{arith}
 use lib.Dec.{eqb, leb}
 use borrow.Author.Tests.{ne_eqb, lt-leb}
 use Rattle.rules.specs.Numbers.{is_rule}
-use Rattle.rules.proofs.TestLaws.{both, and-false}
+use Rattle.rules.proofs.TestLaws.{both}
 
 -- nothing refused, or a rule's number
 abbrev pub OfRule : ℕ → Type 0

@@ -25,7 +25,7 @@ use Rattle.layout.proofs.Below.{below_at}
 use Rattle.layout.proofs.CodeLaws.{row_of_code_code}
 use Rattle.rules.specs.Bytes.{bar, LF}
 use Rattle.rules.specs.Rules.{byte_limit}
-use Rattle.rules.proofs.TestLaws.{and_left, and_right}
+use Rattle.std.proofs.lemmas.Bool.{and_parts}
 use Rattle.field.specs.Streaming.{with_byte}
 use Rattle.whole.specs.Whole.{ends}
 use Rattle.line.specs.Machine.{code_kind, code_only, word_row, code_bar_of, bar_of, in_field_of, start_of, step_of}
@@ -60,7 +60,7 @@ plain_parts n x b l e =
     let low : (x * 256 + b) % 256 ≡ b = mul-add-mod_self_right x 256 b ∙ mod-eq_of_lt l in
     let high : (x * 256 + b) / 256 ≡ x = mul-add-div_right (omega arith) x b ∙ rw (div-eq_of_lt l, add-zero) in
     let parts = rw (low, high) at e in
-    (not-true (ends b) (and_left (not (ends b)) (plain n x) parts), and_right (not (ends b)) (plain n x) parts)
+    (not-true (ends b) (and_parts (not (ends b)) (plain n x) parts).0, (and_parts (not (ends b)) (plain n x) parts).1)
 
 -- The code's bytes, from i on.
 module _ (s : List ℕ) (i : ℕ) where

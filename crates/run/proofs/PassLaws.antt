@@ -9,7 +9,7 @@ use lib.ListN.{drop}
 use lib.Seq.{get_or-drop}
 use borrow.Author.Tests.{ne_eqb, ltb-false}
 use Rattle.rules.specs.Bytes.{bar, LF}
-use Rattle.rules.proofs.TestLaws.{or_fails}
+use Rattle.std.proofs.lemmas.Bool.{or_parts}
 use Rattle.whole.specs.Whole.{ends}
 use Rattle.line.specs.declared.hot.Hot.{Hot}
 use Rattle.line.specs.Machine.{Next}
@@ -38,11 +38,11 @@ passes_join (byte e p) q = byte e (passes_join p q)
 module _ (b : ℕ) (e : ends b ≡ false) where
   pub no_control : ltb b 32 ≡ false
   unfolding ends
-  no_control = (or_fails (ltb b 32) (eqb b bar) e).0
+  no_control = (or_parts (ltb b 32) (eqb b bar) e).0
 
   pub no_bar : eqb b bar ≡ false
   unfolding ends
-  no_bar = (or_fails (ltb b 32) (eqb b bar) e).1
+  no_bar = (or_parts (ltb b 32) (eqb b bar) e).1
 
   pub no_end : eqb b LF ≡ false
   no_end = ne_eqb b LF (λ q. omega (arith, ltb-false b 32 no_control))

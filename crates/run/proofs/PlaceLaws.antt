@@ -17,7 +17,8 @@ use Rattle.layout.proofs.PeriodLaws.{no_later}
 use Rattle.layout.proofs.BlockLaws.{opening_level, closing_level}
 use Rattle.layout.proofs.StartLaws.{block_below}
 use Rattle.layout.proofs.KindLaws.{fields_within}
-use Rattle.rules.proofs.TestLaws.{split, and_left, and_right}
+use Rattle.std.proofs.lemmas.Bool.{and_parts}
+use Rattle.rules.proofs.TestLaws.{split}
 use Rattle.field.specs.Streaming.{empty_field}
 use Rattle.field.specs.declared.bytes.Field.{Field}
 use Rattle.line.specs.Machine.{code_kind, code_only}
@@ -31,10 +32,10 @@ use Rattle.run.specs.Places.{StartsLine, StartsField, Begins}
 module _ (r : ℕ) (silent : is_silent r ≡ true) where
   data_alone : (leb 2 (level r) && leb period_count (period_of r)) ≡ true
   unfolding is_silent
-  data_alone = and_left (leb 2 (level r) && leb period_count (period_of r)) (not (eqb r row9900)) silent
+  data_alone = (and_parts (leb 2 (level r) && leb period_count (period_of r)) (not (eqb r row9900)) silent).0
 
   pub silent_data : 2 ≤ level r
-  silent_data = leb-true 2 (level r) (and_left (leb 2 (level r)) (leb period_count (period_of r)) data_alone)
+  silent_data = leb-true 2 (level r) (and_parts (leb 2 (level r)) (leb period_count (period_of r)) data_alone).0
 
   pub silent_row : r < row_count
   silent_row = let l = silent_data in level_row r (omega arith)
@@ -42,7 +43,7 @@ module _ (r : ℕ) (silent : is_silent r ≡ true) where
   pub silent_period : ltb (period_of r) period_count ≡ false
   silent_period =
       le-ltb (period_of r) period_count
-      (leb-true period_count (period_of r) (and_right (leb 2 (level r)) (leb period_count (period_of r)) data_alone))
+      (leb-true period_count (period_of r) (and_parts (leb 2 (level r)) (leb period_count (period_of r)) data_alone).1)
 
   pub silent_later : later_date r ≡ 0
   silent_later = no_later r silent_period
@@ -50,7 +51,7 @@ module _ (r : ℕ) (silent : is_silent r ≡ true) where
   pub silent_9900 : eqb r row9900 ≡ false
   unfolding is_silent
   silent_9900 =
-      not-true (eqb r row9900) (and_right (leb 2 (level r) && leb period_count (period_of r)) (not (eqb r row9900)) silent)
+      not-true (eqb r row9900) (and_parts (leb 2 (level r) && leb period_count (period_of r)) (not (eqb r row9900)) silent).1
 
   pub silent_9999 : eqb r row9999 ≡ false
   silent_9999 = ne_eqb r row9999 (λ e. omega (arith, ap level e, level_9999, silent_data))
@@ -112,11 +113,11 @@ bars_within p placed l = omega (arith, placed.to l, fields_within p.row l)
 pub no_byte : (f : Field) → not (eqb f.length 0 && (eqb f.wrong 0 && eqb f.value 0)) ≡ false → f ≡ empty_field
 no_byte f e =
     let all = not-false (eqb f.length 0 && (eqb f.wrong 0 && eqb f.value 0)) e in
-    let rest = and_right (eqb f.length 0) (eqb f.wrong 0 && eqb f.value 0) all in
+    let rest = (and_parts (eqb f.length 0) (eqb f.wrong 0 && eqb f.value 0) all).1 in
     same f.length f.wrong f.value
-    (eqb-true f.length 0 (and_left (eqb f.length 0) (eqb f.wrong 0 && eqb f.value 0) all))
-    (eqb-true f.wrong 0 (and_left (eqb f.wrong 0) (eqb f.value 0) rest))
-    (eqb-true f.value 0 (and_right (eqb f.wrong 0) (eqb f.value 0) rest))
+    (eqb-true f.length 0 (and_parts (eqb f.length 0) (eqb f.wrong 0 && eqb f.value 0) all).0)
+    (eqb-true f.wrong 0 (and_parts (eqb f.wrong 0) (eqb f.value 0) rest).0)
+    (eqb-true f.value 0 (and_parts (eqb f.wrong 0) (eqb f.value 0) rest).1)
   where
     same : (l w v : ℕ) → l ≡ 0 → w ≡ 0 → v ≡ 0 → ◌≡◌ {A = Field} (record { length = l; wrong = w; value = v }) empty_field
     same l w v p q r = rw (p, q, r)

@@ -15,7 +15,8 @@ use Rattle.rules.specs.Bytes.{row_of, rows}
 use Rattle.rules.specs.Totals.{block_count}
 use Rattle.rules.specs.Groups.{exchanged}
 use Rattle.rules.specs.Verdict.{Verdict, refused, counts_of, counts, standing}
-use Rattle.rules.proofs.TestLaws.{both, and_left, and_right}
+use Rattle.std.proofs.lemmas.Bool.{and_parts}
+use Rattle.rules.proofs.TestLaws.{both}
 use Rattle.rules.proofs.CountLaws.{counts_length}
 use Rattle.rules.proofs.FollowsLaws.{none_broken_open, follows_accepted, accepted_follows, first_refused, short_refused}
 use Rattle.rules.proofs.FollowsLaws.{refused_names}
@@ -365,8 +366,8 @@ positioned n e = record { of_two_and_ten = ⊎_elim (λ two. within (rw two at e
   where
     within : (leb 1 n.position && leb n.position n.bytes) ≡ true → (1 ≤ n.position) × (n.position ≤ n.bytes)
     within b = (
-      leb-true _ _ (and_left (leb 1 n.position) (leb n.position n.bytes) b),
-      leb-true _ _ (and_right (leb 1 n.position) (leb n.position n.bytes) b),
+      leb-true _ _ (and_parts (leb 1 n.position) (leb n.position n.bytes) b).0,
+      leb-true _ _ (and_parts (leb 1 n.position) (leb n.position n.bytes) b).1,
     )
 
     others : (n.refusal ≡ 2 → ⊥) → (n.refusal ≡ 10 → ⊥) → n.position ≡ 0
