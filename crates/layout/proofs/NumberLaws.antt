@@ -65,7 +65,7 @@ classed_number K.Unused15 = refl
 pub class_one : (a b : Class.Class) → class_number a ≡ class_number b → a ≡ b
 class_one a b e = sym (classed_number a) ∙ ap classed e ∙ classed_number b
 
--- no two kinds have the same number
+-- no two kinds have the same number: what is said of a kind's number fixes the kind
 pub number_one : (a b : Held.Kind) → number_of a ≡ number_of b → a ≡ b
 number_one a b e =
     let class = class_one a.class b.class (sym (class_is a) ∙ ap (λ n. n % size_unit) e ∙ class_is b) in

@@ -7,7 +7,7 @@ ghost use Rattle.layout.specs.Rows.{row_count, fields};
 use super::rows::ENTRIES;
 
 // The number of fields of all rows.
-pub const FIELDS: usize = 1238;
+const FIELDS: usize = 1238;
 
 // A kind's number is its class plus SIZE_UNIT times its size.
 const SIZE_UNIT: u64 = 16;
