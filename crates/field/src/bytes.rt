@@ -1,5 +1,5 @@
 // What is kept of a field's bytes.
-ghost use Rattle.std.specs.Prelude.{◌≡◌, ◌<◌, ◌≤◌};
+ghost use Rattle.std.specs.Prelude.{◌≡◌, ◌+◌, ◌<◌, ◌^◌, ◌≤◌};
 ghost use Rattle.layout.specs.Packed.{number_of};
 ghost use Rattle.field.specs.Streaming.{FieldFit, cap, empty_field, longer, wrong_at, wrong_with, code_with, value_with, digit_with};
 ghost use Rattle.field.specs.Streaming.{matches, text_with, comma_fits, decimal_with, with_byte};
@@ -118,7 +118,7 @@ impl Field {
     #[tactic(auto, unfolding(crate::specs::Streaming::decimal_with, crate::specs::Streaming::digit_fits, rules::specs::Fields::is_digit))]
     fn add_decimal(&mut self, decimals: u64, b: u8)
         requires fit { FieldFit self.old }
-        requires few { decimals < cap }
+        requires few { decimals + 1 < 2 ^ 64 }
         ensures { self.new ≡ decimal_with decimals self.old b }
     {
         if b.is_ascii_digit() && self.value != NONE_TO_COME {
@@ -126,22 +126,24 @@ impl Field {
             return self.add(true);
         }
         if self.comma_fits(b) {
+            self.add(true);
             self.value = decimals + NONE_TO_COME;
-            return self.add(true);
+            return;
         }
         self.add(false);
     }
 
     // One more byte of a field of this kind; of a text only the length is asked.
-    #[tactic(auto, using(crate::proofs::KindLaws::byte_at), unfolding(layout::specs::Text::bytes))]
+    #[tactic(auto, using(crate::proofs::KindLaws::byte_at), unfolding(layout::specs::Text::bytes, layout::specs::Packed::number_of))]
     pub fn add_byte(&mut self, kind: Kind, b: u8)
-        requires { FieldFit self.old }
+        requires fit { FieldFit self.old }
+        requires kind { number_of kind < 2 ^ 64 }
         ensures { self.new ≡ with_byte (number_of kind) self.old b }
     {
         match kind.class {
             Class::Text => self.add(true),
             Class::NoField | Class::Code | Class::LineCode => self.add_to_code(b),
-            Class::Decimals => self.add_decimal(kind.size as u64, b),
+            Class::Decimals => self.add_decimal(kind.size, b),
             Class::Lfpd => self.add_to_fixed(b"LFPD", b),
             Class::Brasil => self.add_to_fixed(b"Brasil", b),
             _ => self.add_digit(b),

@@ -48,7 +48,7 @@ fn right_size(kind: Kind, length: u64) -> bool
 {
     match kind.class {
         Class::Number | Class::Decimals | Class::Count => true,
-        _ => length == kind.size as u64,
+        _ => length == kind.size,
     }
 }
 
@@ -99,7 +99,7 @@ fn fixed_fault(size: u64, f: Field) -> Result<(), Rule>
 pub fn fault(kind: Kind, f: Field, due: u64) -> Result<(), Rule>
     ensures { broken result ≡ fault_of (number_of kind) f due }
 {
-    let size = kind.size as u64;
+    let size = kind.size;
     match kind.class {
         Class::NoField | Class::Code => Ok(()),
         Class::LineCode | Class::Text => size_fault(size, f),

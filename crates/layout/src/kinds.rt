@@ -1,5 +1,5 @@
 // The kind of each field, row after row; and where each row's kinds start.
-ghost use Rattle.std.specs.Prelude.{◌<◌, ◌≤◌, ◌≡◌, get_or};
+ghost use Rattle.std.specs.Prelude.{◌<◌, ◌≤◌, ◌≡◌, ◌^◌, get_or};
 ghost use Rattle.layout.specs.Kinds.{field_count, kind, row_start};
 ghost use Rattle.layout.specs.Packed.{size_unit, class_number, number_of, kind_number, packed_kinds, most_kind};
 ghost use Rattle.layout.specs.Rows.{row_count, fields};
@@ -56,26 +56,26 @@ pub enum Class {
 #[derive(Clone, Copy, PartialEq, Eq)]
 pub struct Kind {
     pub class: Class,
-    pub size: u32,
+    pub size: u64,
 }
 
 impl Kind {
     #[tactic(auto, unfolding(crate::specs::Packed::number_of))]
     pub fn number(self) -> u64
+        requires { number_of self < 2 ^ 64 }
         ensures { result ≡ number_of self }
     {
-        self.class as u64 + SIZE_UNIT * self.size as u64
+        self.class as u64 + SIZE_UNIT * self.size
     }
 
-    // The kind that has this number.
+    // The kind that has this number: each number is one's, also where no field has it.
     #[tactic(auto, unfolding(crate::specs::Packed::number_of))]
     pub fn from_number(number: u64) -> Kind
-        requires { number ≤ most_kind }
         ensures { number_of result ≡ number }
     {
         Kind {
             class: class_of(number % SIZE_UNIT),
-            size: (number / SIZE_UNIT) as u32,
+            size: number / SIZE_UNIT,
         }
     }
 }

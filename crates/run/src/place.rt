@@ -43,6 +43,7 @@ fn starts_line(h: Hot) -> bool
 }
 
 // Whether a field after the first starts here, in a silent row, and the state agrees with the tables.
+#[tactic(auto, using(layout::proofs::KindLaws::kind_most))]
 fn starts_field(line: &Line) -> bool
     ensures { result ≡ true → StartsField line.now.hot }
 {

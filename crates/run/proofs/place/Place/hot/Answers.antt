@@ -1,5 +1,7 @@
 use mathlib.Core.Path.{◌∙◌, sym}
 use native.Mathlib.Omega.{arith}
+use Prim.Native.Nat.{◌+◌, ◌-◌}
+use Rattle.layout.proofs.KindLaws.{kind_most}
 use Rattle.run.proofs.PlaceLaws.{at_line, at_field, bars_within}
 use Rattle.run.proofs.place.Place.hot.Goals as goal
 
@@ -11,6 +13,11 @@ pub overflow_add-bars : goal.overflow_add-bars
 overflow_add-bars c =
     let placed = c.requires in
     omega (arith, c.start_at.ensures, bars_within c.args.self placed (omega (arith, placed.row)))
+
+pub number-requires : goal.number-requires
+number-requires c =
+    let bars = c.args.self.index - c.start_at.result + 1 in
+    omega (arith, c.kind_of.ensures, kind_most c.args.self.row bars)
 
 pub returns : goal.returns
 returns c =
