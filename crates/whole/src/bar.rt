@@ -9,8 +9,5 @@ pub fn bar_past(s: &[u8], e: usize) -> Option<usize>
     requires { e < length s.now }
     ensures { IfSome result (λ past. (past ≡ e + 1) × (slice_index s.now e ≡ bar)) }
 {
-    if s[e] != BAR {
-        return None;
-    }
-    Some(e + 1)
+    (s[e] == BAR).then_some(e + 1)
 }

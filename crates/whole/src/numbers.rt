@@ -121,9 +121,8 @@ pub fn checked_past<F: Fn(u64) -> bool>(
     requires { (size ≤ 14) × (i + longest ≤ length s.now) × F.IsAlwaysCallable is_right }
     ensures { IfSome result (λ past. DigitsPast s.now i size past × F.post is_right (number_at size s.now i) true) }
 {
-    let past = exact_past(s, i, size)?;
-    if !is_right(number_at(s, i, size)) {
+    if many_digits_from(s, i) != size || !is_right(number_at(s, i, size)) {
         return None;
     }
-    Some(past)
+    bar_past(s, i + size)
 }

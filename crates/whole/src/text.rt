@@ -41,14 +41,11 @@ pub fn text_past(s: &[u8], i: usize, size: usize, safe: usize) -> Option<usize>
     requires { safe ≤ length s.now - margin }
     ensures { IfSome result (Past (c_class + size_unit * size) s.now i (safe + 8)) }
 {
-    // By hand: over (i..safe).step_by(WORD) it took 3% more instructions a byte.
-    let mut j = i;
-    while j < safe {
+    for j in (i..safe).step_by(WORD) {
         let marks = stops(eight(s, j));
         if marks != 0 {
             return sized_past(s, i, j + first_of(marks), size);
         }
-        j += WORD;
     }
     None
 }
