@@ -66,3 +66,7 @@ module _ (s : State) where
     finish_now d =
         at_third (ranged_of s) s.finished (finally_unchanged Final.Late s)
         (record { answer = final_answer_of s; state = closed_of s }) (finally_unchanged Final.Damaged s) ranged d
+
+pub ruleset checks = (check_damaged, check_late, check_kept, check_run)
+
+pub ruleset finishes = (finish_damaged, finish_late, finish_now)

@@ -15,6 +15,7 @@ impl State {
     ghost use Rattle.state.specs.Calls.{check_of, final_answer_of, finish_of, report_of, reported_of};
 
     // The line at hand, where every stored number is in its range.
+    #[tactic(auto, using(crate::proofs::RangeLaws::state_fit))]
     fn line(&self) -> Option<Line>
         ensures known { IfSome result (λ line. (line.hot ≡ self.now.hot) × (ranged_of self.now ≡ true)) }
         ensures damaged { IsNone result → ranged_of self.now ≡ false }
@@ -26,6 +27,7 @@ impl State {
     }
 
     // A piece of the file: the answer after it.
+    #[tactic(auto, using(crate::proofs::CallCases::checks, crate::proofs::RunLaws::run_all, crate::proofs::RunLaws::run_stops))]
     pub fn check(&mut self, piece: &[u8]) -> Answer
         ensures { checked result self.new ≡ check_of self.old piece.now }
     {
@@ -65,6 +67,7 @@ impl State {
     }
 
     // The end of the file: the final answer.
+    #[tactic(auto, using(crate::proofs::CallCases::finishes, crate::proofs::RangeLaws::state_room))]
     pub fn finish(&mut self) -> FinalAnswer
         ensures { finished result self.new ≡ finish_of self.old }
     {
