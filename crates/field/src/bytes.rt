@@ -6,7 +6,10 @@ ghost use Rattle.field.specs.Streaming.{matches, text_with, comma_fits, decimal_
 
 use layout::kinds::{Class, Kind};
 
-const COMMA: u8 = b',';
+// A bar ends a field; a comma stands before decimals.
+pub const BAR: u8 = b'|';
+
+pub const COMMA: u8 = b',';
 
 // A code's value is its last four bytes: three of them stay as one more comes.
 const THREE_BYTES: u64 = 16_777_216;
@@ -20,7 +23,8 @@ pub const NONE_TO_COME: u64 = 1;
 pub const CAP: u64 = 100_000_000_000_000;
 
 // How many bytes, the position of the first wrong one, from 1, or 0, and the value, by the field's kind.
-// Its ranges, FieldFit, are asked by the methods and no ghost field: a state holds any numbers, and `check` (Checks) answers of all.
+// Its ranges, FieldFit, are asked by the methods and no ghost field, and 0 is "none wrong": a state holds any numbers, and `check`
+// (Checks) answers of all.
 #[derive(Clone, Copy, PartialEq, Eq)]
 pub struct Field {
     pub length: u64,

@@ -9,7 +9,7 @@ use super::rows::ENTRIES;
 // The number of fields of all rows.
 const FIELDS: usize = 1238;
 
-// A kind's number is its class plus SIZE_UNIT times its size.
+// A kind's number is its class plus SIZE_UNIT times its size. A state keeps it, in range up to KIND_MOST, and `check` promises its answer.
 const SIZE_UNIT: u64 = 16;
 
 // The largest size: that of TXT, field 3 of 0450.

@@ -16,6 +16,7 @@ pub struct Line {
     pub ghost fit: { HotFit hot },
 }
 
+// What works on a byte asks in a clause that the byte limit has been asked: `judge` does, and no other.
 impl Line {
     pub fn of(hot: Hot) -> Line
         requires { HotFit hot }

@@ -10,7 +10,7 @@ pub const PAIRS_MOST: usize = 64;
 
 pub const PAIRS: usize = PAIRS_MOST * PERIODS;
 
-// Above every date: eight digits.
+// Above every date: eight digits. (Dates are one number, as `Hot` keeps them: see there.)
 const DATE_UNIT: u64 = 100_000_000;
 
 impl Line {

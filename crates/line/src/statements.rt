@@ -5,7 +5,8 @@ ghost use Rattle.line.specs.Machine.{number_of, joined_of};
 
 use field::bytes::{CAP, Field};
 
-// A 9900 line says the row of its code, and so many times one more than its number.
+// A 9900 line says the row of its code, and so many times one more than its number: in one number, as `Hot` and `Tally` keep it (see
+// there).
 pub const NUMBER_UNIT: u64 = 256;
 
 // One more than a number that can't be true: no file has so many lines.

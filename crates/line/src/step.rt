@@ -15,6 +15,7 @@ use crate::line::Line;
 use crate::order::{ROW_9900, ROW_9999, WITH_DATA, WITHOUT_DATA, misplaced, stands};
 use crate::statements::{NUMBER_UNIT, number_of};
 use crate::tally::Tally;
+use field::bytes::BAR;
 use field::fault::fault;
 use layout::blocks::BLOCKS;
 use layout::codes::row_of_code;
@@ -22,8 +23,6 @@ use layout::kinds::{Class, Kind, kind_at};
 use layout::roles::block_at;
 use layout::rows::{ROWS, fields_at};
 use rules::{BYTE_LIMIT, Rule};
-
-pub const BAR: u8 = b'|';
 
 pub const CR: u8 = b'\r';
 
@@ -152,7 +151,7 @@ impl Line {
         self.hot.since + 1
     }
 
-    // What is due of a count; of any other field nothing is.
+    // What is due of a count; of any other field nothing is, and `fault` does not look at the 0.
     #[tactic(auto, using(layout::proofs::NumberLaws::class_is))]
     fn due_of_count(&self) -> u64
         ensures { result ≡ pick (eqb (self.now.hot.kind % size_unit) count_class) (due_of self.now.hot) 0 }
@@ -321,7 +320,7 @@ impl Line {
     }
 
     // The position that the refusal by this rule gives, told from the state before the refusing byte. A file has at most one
-    // refusal: so it is asked there, and a step carries none.
+    // refusal: so it is asked there, and a step carries none. (0 for all but 2 and 10 is 02's own.)
     #[tactic(auto, unfolding(crate::specs::Machine::position_of))]
     pub fn position(&self, rule: Rule) -> u64
         ensures { result ≡ position_of self.now.hot (rule_number rule) }

@@ -9,13 +9,14 @@ ghost use Rattle.line.specs.Tally.{Countable, Held};
 ghost use Rattle.run.specs.Places.{Placed, HasCode, Follows, Headed, Fielded, EndsHere, next_line, counted_with, safe_of, Along, Onward};
 
 use crate::place::{Place, begins, is_silent};
+use field::bytes::BAR;
 use layout::codes::row_of_code;
 use layout::kinds::{kind_in_table, start_at};
 use layout::rows::{ROWS, fields_at};
 use layout::silent::silent_at;
 use line::line::Line;
 use line::order::{hangs, misplaced};
-use line::step::{BAR, CR, LF};
+use line::step::{CR, LF};
 use line::tally::Tally;
 use rules::BYTE_LIMIT;
 use whole::kind::{MARGIN, field_past};
@@ -72,7 +73,7 @@ fn begun(tally: &Tally, s: &[u8], p: Place) -> Option<Place>
 }
 
 // Over whole fields, as far as they go. Behind a row's last field stands the next row's code, whose kind is never passed: so the
-// number of fields is not asked here.
+// number of fields is not asked here. (It is no `for`: a field starts where the one before it ended.)
 fn fields_past(s: &[u8], safe: usize, p: Place) -> Place
     requires near { safe ≤ length s.now - margin }
     requires placed { Placed p × (p.row < row_count) × (p.at < safe + longest) }

@@ -12,6 +12,8 @@ use line::line::Line;
 use line::order::ROW_9999;
 use line::step::kind_of;
 
+// Rows and what a line says are numbers, as in Hot. That it is `Placed` stands in clauses: a ghost field can cite no definition that
+// names its struct.
 #[derive(Clone, Copy)]
 pub struct Place {
     pub at: usize,

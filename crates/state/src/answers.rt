@@ -5,7 +5,7 @@ ghost use Rattle.state.specs.Answers.{numbers, numbers_of, said, finally_said, r
 use crate::State;
 
 // The refusal's number, 0 if none; its line and field, 0 if none; the position in the field, 0 for all but 2 and 10; lines ended
-// and bytes judged.
+// and bytes judged. (0 for none is 01's own word.)
 #[derive(Clone, Copy, PartialEq, Eq)]
 pub struct Numbers {
     pub refusal: u64,

@@ -59,7 +59,7 @@ impl State {
         }
     }
 
-    // The refusal that is kept: it is one in the line at hand.
+    // The refusal that is kept: it is one in the line at hand. (No From: only where there is room for a line more has a state one.)
     #[tactic(auto, unfolding(crate::specs::Piece::kept_of))]
     fn kept(&self) -> Numbers
         requires { self.now.hot.lines + 1 < 2 ^ 64 }

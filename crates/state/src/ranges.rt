@@ -21,7 +21,7 @@ const BYTES_MOST: u64 = BYTE_LIMIT + 1;
 // A line has a bar before each field, and the last one.
 const BARS_MOST: u64 = FIELDS_MOST + 1;
 
-// A 9900 line says most.
+// A 9900 line says most. (A number, as `Hot` keeps it.)
 const SAYS_MOST: u64 = NUMBER_UNIT * (UNTRUE + 1) - 1;
 
 // Every entry is at most so much.

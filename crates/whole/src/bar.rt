@@ -2,7 +2,7 @@
 ghost use Rattle.std.specs.Prelude.{◌≡◌, ◌+◌, ◌<◌, IfSome, length, slice_index};
 ghost use Rattle.rules.specs.Bytes.{bar};
 
-pub const BAR: u8 = b'|';
+use field::bytes::BAR;
 
 // Past the bar that should stand at e.
 pub fn bar_past(s: &[u8], e: usize) -> Option<usize>

@@ -3,9 +3,9 @@ ghost use Rattle.std.specs.Prelude.{◌≡◌, ◌+◌, ◌-◌, ◌^◌, ◌<�
 ghost use Rattle.layout.specs.Packed.{number_of};
 ghost use Rattle.whole.specs.Whole.{is_quick, longest, margin, Past};
 
-use crate::bar::BAR;
 use crate::numbers::{amount_past, any_past, checked_past, decimal_past, exact_past};
 use crate::text::text_past;
+use field::bytes::BAR;
 use field::check_digits::{is_cnpj, is_cpf};
 use field::date::is_date;
 use layout::kinds::{Class, Kind};

@@ -8,8 +8,7 @@ ghost use Rattle.whole.specs.Whole.{number_at, longest, CentsPast, DigitsPast, P
 use crate::bar::bar_past;
 use crate::digits::digits_from;
 use crate::word::{WORD, four};
-
-const COMMA: u8 = b',';
+use field::bytes::COMMA;
 
 // A comma, two zeros and a bar as one number, the first byte lowest.
 const CENTS: u64 = 0x7c30302c;

@@ -10,6 +10,7 @@ const HALF: usize = 4;
 
 pub const TOP_BITS: u64 = 0x8080808080808080;
 
+// Two widths, by two methods of std: a generic one would need a trait of our own.
 #[tactic(auto, using(crate::proofs::WordLaws::four_word))]
 pub fn four(s: &[u8], i: usize) -> u32
     requires { i + 4 ≤ length s.now }
