@@ -1,4 +1,4 @@
-// What the words of the call ask for.
+// What the words of the call ask for. They are read into fixed memory, since `env::args` takes the heap.
 ghost use Rattle.std.specs.Prelude.{IfSome, ◌<◌, ◌≤◌};
 
 use std::env::FillError;
