@@ -1,4 +1,3 @@
-pub mod Picks
 pub mod KindLaws
 pub mod LengthLaws
 pub mod WrongLaws

@@ -116,7 +116,7 @@ macro_rules! kind {
 }
 
 // The kinds of the table below.
-const CODE: Kind = kind!(Code, 0);
+pub const CODE: Kind = kind!(Code, 0);
 
 const LINE_CODE: Kind = kind!(LineCode, 4);
 
@@ -180,7 +180,7 @@ const DECIMALS_4: Kind = kind!(Decimals, 4);
 
 const DECIMALS_6: Kind = kind!(Decimals, 6);
 
-const DATE: Kind = kind!(Date, 8);
+pub const DATE: Kind = kind!(Date, 8);
 
 const CNPJ: Kind = kind!(Cnpj, 14);
 
@@ -190,7 +190,7 @@ const LFPD: Kind = kind!(Lfpd, 4);
 
 const BRASIL: Kind = kind!(Brasil, 6);
 
-const OPENS: Kind = kind!(Opens, 1);
+pub const OPENS: Kind = kind!(Opens, 1);
 
 const COUNT: Kind = kind!(Count, 0);
 

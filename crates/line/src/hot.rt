@@ -1,20 +1,14 @@
 // What changes with each byte: numbers of one width, apart from the arrays that only the end of a line changes.
 use field::bytes::Field;
-use layout::kinds::{Class, Kind};
+use layout::kinds::Class;
 
-// The kind of field 1, and how many fields a line has before its row is known.
-pub const CODE: Kind = Kind {
-    class: Class::Code,
-    size: 0,
-};
-
+// The number of field 1's kind, and how many fields a line has before its row is known.
 pub const CODE_KIND: u64 = Class::Code as u64;
 
 pub const CODE_ONLY: u64 = 1;
 
 // Rows, kinds and what a line says stay numbers here: `check` promises its exact answer at every state in range (`check_of`,
 // `Checks.exact`), at numbers too that no call gives, so that an enum would have to hold every number.
-
 #[derive(Clone, Copy)]
 pub struct Hot {
     // lines ended and bytes judged

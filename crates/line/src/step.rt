@@ -10,7 +10,6 @@ ghost use Rattle.line.specs.Machine.{Below, Broken, step_said, word_row, code_ba
 ghost use Rattle.line.specs.Machine.{found_of, field_bar_of, control_of, past_of, start_of, position_of};
 ghost use Rattle.line.specs.Tally.{Countable, step_with, kept_after};
 
-use crate::hot::CODE;
 use crate::line::Line;
 use crate::order::{ROW_9900, ROW_9999, WITH_DATA, WITHOUT_DATA, misplaced, stands};
 use crate::statements::{NUMBER_UNIT, number_of};
@@ -19,7 +18,7 @@ use field::bytes::BAR;
 use field::fault::fault;
 use layout::blocks::BLOCKS;
 use layout::codes::row_of_code;
-use layout::kinds::{Class, Kind, kind_at};
+use layout::kinds::{CODE, Class, DATE, Kind, OPENS, kind_at};
 use layout::roles::block_at;
 use layout::rows::{ROWS, fields_at};
 use rules::{BYTE_LIMIT, Rule};
@@ -44,18 +43,6 @@ const LAST_BLOCK: u64 = BLOCKS as u64 - 1;
 const NO_FIELD: Kind = Kind {
     class: Class::NoField,
     size: 0,
-};
-
-// Field 2 of an opening: one digit.
-const OPENS: Kind = Kind {
-    class: Class::Opens,
-    size: 1,
-};
-
-// A date: eight digits.
-const DATE: Kind = Kind {
-    class: Class::Date,
-    size: 8,
 };
 
 // A rule is broken, and its refusal names this field, or 0 for none.

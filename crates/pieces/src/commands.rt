@@ -8,7 +8,7 @@ use std::io::{ErrorKind, Read, Result};
 // A command's letter and length.
 const HEAD: usize = 5;
 
-// A piece has at most so many bytes. (sefcheck reads by a number of its own: the programs share no crate.)
+// A piece has at most so many bytes. (sefcheck has a number of its own: no library says what a program reads at once.)
 pub const LARGEST: usize = 65536;
 
 #[derive(Clone, Copy)]

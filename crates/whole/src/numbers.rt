@@ -42,7 +42,8 @@ fn exactly(s: &[u8], i: usize, k: usize, size: usize) -> Option<usize>
     bar_past(s, i + k)
 }
 
-// A number with so many decimals, 8 at most, and at most 8 digits before them.
+// A number with so many decimals, 8 at most, and at most 8 digits before them: 16 behind a comma would reach past `longest`, so it is no
+// one function with `exact_past`.
 #[tactic(auto, using(crate::proofs::NumberLaws::decimal_past))]
 pub fn decimal_past(s: &[u8], i: usize, size: usize) -> Option<usize>
     requires { i + longest ≤ length s.now }

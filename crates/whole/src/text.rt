@@ -36,7 +36,8 @@ fn sized_past(s: &[u8], i: usize, e: usize, size: usize) -> Option<usize>
     bar_past(s, e)
 }
 
-// Past a text of at most so many bytes.
+// Past a text of at most so many bytes. (It reads its marks itself, as `digits_from` does: one helper for both took 2.5% more
+// instructions a byte.)
 pub fn text_past(s: &[u8], i: usize, size: usize, safe: usize) -> Option<usize>
     requires { safe ≤ length s.now - margin }
     ensures { IfSome result (Past (c_class + size_unit * size) s.now i (safe + 8)) }
