@@ -17,24 +17,24 @@ use Rattle.run.specs.Places.Passes.{here, byte}
 use Rattle.run.proofs.PassLaws.{bytes_from, passes_held, passes_join}
 
 -- The loop's invariant: what is left of the piece follows on bytes that passed.
-pub record Going (p : List ℕ) (h₀ : Hot) (t₀ : Tally) (h : Hot) (t : Tally) (i : ℕ) : Type 0 where
+pub record Passed (p : List ℕ) (h₀ : Hot) (t₀ : Tally) (h : Hot) (t : Tally) (i : ℕ) : Type 0 where
   pub passes : Passes h₀ t₀ p h t (drop i p)
   pub within : i ≤ length p
   pub bytes : h.bytes ≡ h₀.bytes + i
   pub held : Held h t
 
-pub going_start : (p : List ℕ) (h : Hot) (t : Tally) → Held h t → Going p h t h t 0
-going_start p h t d = record { passes = here; within = omega arith; bytes = omega arith; held = d }
+pub passed_start : (p : List ℕ) (h : Hot) (t : Tally) → Held h t → Passed p h t h t 0
+passed_start p h t d = record { passes = here; within = omega arith; bytes = omega arith; held = d }
 
-module _ {p : List ℕ} {h₀ : Hot} {t₀ : Tally} {h : Hot} {t : Tally} {i : ℕ} (g : Going p h₀ t₀ h t i) where
+module _ {p : List ℕ} {h₀ : Hot} {t₀ : Tally} {h : Hot} {t : Tally} {i : ℕ} (g : Passed p h₀ t₀ h t i) where
   -- all bytes have passed
-  pub going_end : length p ≤ i → Passes h₀ t₀ p h t []
-  going_end l = let e : i ≡ length p = omega (arith, g.within) in rw (e, drop-length) at g.passes
+  pub passed_end : length p ≤ i → Passes h₀ t₀ p h t []
+  passed_end l = let e : i ≡ length p = omega (arith, g.within) in rw (e, drop-length) at g.passes
 
   -- the step at the next byte, and what is kept after it
   module _ (l : i < length p) (u : Tally) (kept : u ≡ kept_after (step_with h t (get_or p i 0)) h (get_or p i 0) t) where
-    pub going_stop : (rule field : ℕ) → Broken rule field ≡ step_with h t (get_or p i 0) → Stops h₀ t₀ p rule field h u
-    going_stop rule field e =
+    pub passed_stop : (rule field : ℕ) → Broken rule field ≡ step_with h t (get_or p i 0) → Stops h₀ t₀ p rule field h u
+    passed_stop rule field e =
         let same : u ≡ t = kept ∙ rw (← e) in
         record {
           byte = get_or p i 0;
@@ -43,8 +43,8 @@ module _ {p : List ℕ} {h₀ : Hot} {t₀ : Tally} {h : Hot} {t : Tally} {i : �
           broken = rw same (sym e);
         }
 
-    pub going_next : get_or p i 0 < 256 → (n : Hot) → Next n ≡ step_with h t (get_or p i 0) → Going p h₀ t₀ n u (i + 1)
-    going_next small n e =
+    pub passed_next : get_or p i 0 < 256 → (n : Hot) → Next n ≡ step_with h t (get_or p i 0) → Passed p h₀ t₀ n u (i + 1)
+    passed_next small n e =
         let step = sym e in
         let same : u ≡ tally_with h n.lines (get_or p i 0) t = kept ∙ rw (← e) in
         let one : Passes h t (drop i p) n u (drop (i + 1) p) =
@@ -57,8 +57,8 @@ module _ {p : List ℕ} {h₀ : Hot} {t₀ : Tally} {h : Hot} {t : Tally} {i : �
         }
 
   -- whole lines and fields at once
-  pub going_on : {r : Hot} {u : Tally} → AllBytes p → Onward p (h.bytes - i) i h t r u → Going p h₀ t₀ r u (r.bytes - h₀.bytes)
-  going_on {r} {u} all o =
+  pub passed_on : {r : Hot} {u : Tally} → AllBytes p → Onward p (h.bytes - i) i h t r u → Passed p h₀ t₀ r u (r.bytes - h₀.bytes)
+  passed_on {r} {u} all o =
       let start : h.bytes - i ≡ h₀.bytes = omega (arith, g.bytes) in
       let led = rw start at o.passes in
       record {

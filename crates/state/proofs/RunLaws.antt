@@ -2,7 +2,9 @@
 use mathlib.Core.Path.{◌≡◌, ◌∙◌, refl}
 use mathlib.Core.Bool.{true}
 use mathlib.Core.List.{List, [], ◌∷◌}
-use Prim.Native.Nat.{ℕ, suc, ◌≤◌}
+use Prim.Native.Nat.{ℕ, suc, ◌+◌, ◌-◌, ◌≤◌}
+use native.Mathlib.Omega.{arith}
+use lib.ListN.{length, drop}
 use Rattle.line.specs.Machine.{most_bars}
 use Rattle.line.specs.Tally.{tally_with, on_step, step_with}
 use Rattle.state.specs.Piece.{open_of, stopped_of, run_of}
@@ -15,7 +17,8 @@ use Rattle.line.specs.declared.tally.Tally.{Tally}
 use Rattle.state.specs.declared.answers.Checked.{Checked}
 use Rattle.line.proofs.StepRanges.{Leads, stops, step_leads}
 use Rattle.line.proofs.HeldLaws.{held_next}
-use Rattle.run.specs.Places.{Passes, Stops}
+use Rattle.run.specs.Places.{Passes, Stops, Onward}
+use Rattle.run.proofs.PassLaws.{bytes_from, passes_held}
 use Rattle.run.specs.Places.Passes.{here, byte}
 
 -- What a piece comes to: nothing is refused so far, or a byte has broken a rule; all within the ranges.
@@ -52,3 +55,22 @@ pub run_stops : {h h' : Hot} {t t' : Tally} {xs : List ℕ} {rule field : ℕ} �
     → run_of h t xs ≡ stopped_of h' t' rule field
 unfolding run_of
 run_stops s = passes_run s.passes ∙ rw s.broken
+
+-- The run from the start of a piece is the run from here over what is left of it; and so it stays over whole lines and fields.
+pub record Going (p : List ℕ) (h₀ : Hot) (t₀ : Tally) (h : Hot) (t : Tally) (i : ℕ) : Type 0 where
+  pub runs : run_of h₀ t₀ p ≡ run_of h t (drop i p)
+  pub within : i ≤ length p
+  pub bytes : h.bytes ≡ h₀.bytes + i
+  pub held : Held h t
+
+pub going_on : {p : List ℕ} {h₀ : Hot} {t₀ : Tally} {h r : Hot} {t u : Tally} {i : ℕ} → Going p h₀ t₀ h t i → AllBytes p
+    → Onward p (h.bytes - i) i h t r u → Going p h₀ t₀ r u (r.bytes - h₀.bytes)
+going_on {p} {h₀} {t₀} {h} {r} {t} {u} {i} g all o =
+    let start : h.bytes - i ≡ h₀.bytes = omega (arith, g.bytes) in
+    let led = rw start at o.passes in
+    record {
+      runs = g.runs ∙ passes_run led;
+      within = omega (arith, start, o.within);
+      bytes = omega (arith, start, o.on);
+      held = passes_held led (bytes_from p all i) g.held;
+    }
