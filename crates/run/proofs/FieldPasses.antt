@@ -195,6 +195,13 @@ module _ (p : Place) (row : p.row < row_count) (i index : ℕ) (placed : Placed 
       let r = suc p.row in
       omega (arith, placed.to row, start_next p.row, fields_within r not_last, fields_two r not_last)
 
+  pub kind_small : get_or packed_kinds index 0 ≤ most_kind
+  kind_small = go (dec_lt index (row_start p.row + fields p.row))
+    where
+      go : Dec (index < row_start p.row + fields p.row) → get_or packed_kinds index 0 ≤ most_kind
+      go (yes l) = rw (kind_here l) (kind_most p.row _)
+      go (no n) = rw (kind_behind (omega arith)) (lit≤ tt)
+
 module _ (s : List ℕ) (safe : ℕ) (p : Place) (row : p.row < row_count) where
   pub fielded_start : Placed p → p.at < safe + longest → Fielded s safe p p
   fielded_start placed near =

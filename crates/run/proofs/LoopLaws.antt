@@ -10,7 +10,7 @@ use Rattle.rules.specs.Bytes.{AllBytes}
 use Rattle.line.specs.Machine.{Step, Next, Broken}
 use Rattle.line.specs.declared.hot.Hot.{Hot}
 use Rattle.line.specs.declared.tally.Tally.{Tally}
-use Rattle.line.specs.Tally.{Held, tally_with, step_with, kept_after}
+use Rattle.line.specs.Tally.{Held, tally_of, tally_with, step_with, kept_after}
 use Rattle.line.proofs.HeldLaws.{bytes_next, held_next}
 use Rattle.run.specs.Places.{Passes, Stops, Onward}
 use Rattle.run.specs.Places.Passes.{here, byte}
@@ -67,3 +67,22 @@ module _ {p : List ℕ} {h₀ : Hot} {t₀ : Tally} {h : Hot} {t : Tally} {i : �
         bytes = omega (arith, start, o.on);
         held = passes_held led (bytes_from p all i) g.held;
       }
+
+-- what is stated and the pairs have no part in the ranges of the others
+pub held_rows : (h : Hot) (cs ss os bs ds ps : List ℕ) → Held h (tally_of cs ss os bs ds ps) → Held h (tally_of cs ss os bs [] [])
+held_rows h cs ss os bs ds ps d =
+    let f = d.tally in
+    record {
+      fit = d.fit;
+      within_limit = d.within_limit;
+      tally =
+          record {
+            each_row = f.each_row;
+            each_block = f.each_block;
+            stamps = f.stamps;
+            occurrences = f.occurrences;
+            stated = λ k l. omega arith;
+            totals = f.totals;
+            add_up = f.add_up;
+          };
+    }

@@ -109,18 +109,19 @@ start_most (suc r) l = omega (arith, start_next r, fields_within r l)
 pub bars_within : (p : Place) → Placed p → p.row < row_count → p.index - row_start p.row ≤ field_count
 bars_within p placed l = omega (arith, placed.to l, fields_within p.row l)
 
--- Nothing has come of a field that is as before its first byte.
-pub no_byte : (f : Field) → not (eqb f.length 0 && (eqb f.wrong 0 && eqb f.value 0)) ≡ false → f ≡ empty_field
-no_byte f e =
-    let all = not-false (eqb f.length 0 && (eqb f.wrong 0 && eqb f.value 0)) e in
-    let rest = (and_parts (eqb f.length 0) (eqb f.wrong 0 && eqb f.value 0) all).1 in
-    same f.length f.wrong f.value
-    (eqb-true f.length 0 (and_parts (eqb f.length 0) (eqb f.wrong 0 && eqb f.value 0) all).0)
-    (eqb-true f.wrong 0 (and_parts (eqb f.wrong 0) (eqb f.value 0) rest).0)
-    (eqb-true f.value 0 (and_parts (eqb f.wrong 0) (eqb f.value 0) rest).1)
+-- Nothing has come of a field whose numbers are 0.
+pub no_byte_lem : (f : Field) → f.length ≡ 0 → f.wrong ≡ 0 → f.value ≡ 0 → f ≡ empty_field
+no_byte_lem f = same f.length f.wrong f.value
   where
     same : (l w v : ℕ) → l ≡ 0 → w ≡ 0 → v ≡ 0 → ◌≡◌ {A = Field} (record { length = l; wrong = w; value = v }) empty_field
     same l w v p q r = rw (p, q, r)
+
+pub no_byte : (f : Field) → not (eqb f.length 0 && (eqb f.wrong 0 && eqb f.value 0)) ≡ false → f ≡ empty_field
+no_byte f e =
+    let all = and_parts (eqb f.length 0) (eqb f.wrong 0 && eqb f.value 0)
+    (not-false (eqb f.length 0 && (eqb f.wrong 0 && eqb f.value 0)) e) in
+    let rest = and_parts (eqb f.wrong 0) (eqb f.value 0) all.1 in
+    no_byte_lem f (eqb-true f.length 0 all.0) (eqb-true f.wrong 0 rest.0) (eqb-true f.value 0 rest.1)
 
 -- A state in which nothing has come of the field at hand is that of its place.
 module _ (h : Hot) (fresh : h.field ≡ empty_field) where

@@ -63,6 +63,9 @@ pub record Going (p : List ℕ) (h₀ : Hot) (t₀ : Tally) (h : Hot) (t : Tally
   pub bytes : h.bytes ≡ h₀.bytes + i
   pub held : Held h t
 
+pub going_start : (p : List ℕ) (h : Hot) (t : Tally) → Held h t → Going p h t h t 0
+going_start p h t d = record { runs = refl; within = omega arith; bytes = omega arith; held = d }
+
 pub going_on : {p : List ℕ} {h₀ : Hot} {t₀ : Tally} {h r : Hot} {t u : Tally} {i : ℕ} → Going p h₀ t₀ h t i → AllBytes p
     → Onward p (h.bytes - i) i h t r u → Going p h₀ t₀ r u (r.bytes - h₀.bytes)
 going_on {p} {h₀} {t₀} {h} {r} {t} {u} {i} g all o =

@@ -22,7 +22,7 @@ hangs-requires c =
       | then-is_silent w ↦ sym c.is_silent.ensures ∙ w.if-is_silent.true
       | else-is_silent w ↦ both c.if-not-misplaced.true (w.value-is ∙ w.if-is_silent.false)
     ] in
-    (c.requires.0, c.requires.1, silent_data c.args.r silent)
+    (omega (arith, c.requires.0, c.requires.1), c.requires.1, silent_data c.args.r silent)
 
 pub returns-then-hangs : goal.returns-then-hangs
 returns-then-hangs c e =
