@@ -4,6 +4,7 @@ ghost use Rattle.layout.specs.Packed.{number_of};
 ghost use Rattle.field.specs.Streaming.{FieldFit, cap, empty_field, longer, wrong_at, wrong_with, code_with, value_with, digit_with};
 ghost use Rattle.field.specs.Streaming.{matches, text_with, comma_fits, decimal_with, with_byte};
 
+pub use layout::kinds::SIZE_UNIT;
 use layout::kinds::{Class, Kind};
 
 // A bar ends a field; a comma stands before decimals.

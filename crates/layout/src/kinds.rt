@@ -7,10 +7,10 @@ ghost use Rattle.layout.specs.Rows.{row_count, fields};
 use super::rows::ENTRIES;
 
 // The number of fields of all rows.
-const FIELDS: usize = 1238;
+pub const FIELDS: usize = 1238;
 
 // A kind's number is its class plus SIZE_UNIT times its size. A state keeps it, in range up to KIND_MOST, and `check` promises its answer.
-const SIZE_UNIT: u64 = 16;
+pub const SIZE_UNIT: u64 = 16;
 
 // The largest size: that of TXT, field 3 of 0450.
 const SIZE_MOST: u64 = 65536;
@@ -114,6 +114,9 @@ macro_rules! kind {
         }
     };
 }
+
+// What stands past a row's fields.
+pub const NO_FIELD: Kind = kind!(NoField, 0);
 
 // The kinds of the table below.
 pub const CODE: Kind = kind!(Code, 0);
