@@ -1,14 +1,12 @@
 // The line at hand, as a step takes it: its numbers are in their ranges.
-ghost use Rattle.std.specs.Prelude.{◌≡◌, ◌+◌, ◌≤◌, ◌<◌};
+ghost use Rattle.std.specs.Prelude.{◌≡◌, ◌≤◌, ◌<◌};
 ghost use Rattle.layout.specs.Packed.{number_of, most_kind};
 ghost use Rattle.layout.specs.Rows.{row_count, most_fields};
 ghost use Rattle.rules.specs.Rules.{byte_limit};
-ghost use Rattle.line.specs.Machine.{HotFit, most_says, grown_of, moved_of, since_of, ended_of};
+ghost use Rattle.line.specs.Machine.{HotFit, most_says, grown_of, moved_of, ended_of};
 
-use crate::hot::{CODE_KIND, CODE_ONLY, Hot};
+use crate::hot::Hot;
 use layout::kinds::Kind;
-use layout::roles::is_closing;
-use layout::rows::ROWS;
 
 #[derive(Clone, Copy)]
 pub struct Line {
@@ -16,7 +14,7 @@ pub struct Line {
     pub ghost fit: { HotFit hot },
 }
 
-// What works on a byte asks in a clause that the byte limit has been asked: `judge` does, and no other.
+// What works on a byte asks in a clause that the byte limit has been asked: `step` does, and no other.
 impl Line {
     pub fn of(hot: Hot) -> Line
         requires { HotFit hot }
@@ -37,9 +35,7 @@ impl Line {
         requires { self.old.hot.bytes < byte_limit }
         ensures { self.new.hot ≡ grown_of self.old.hot b }
     {
-        let kind = self.kind();
-        self.hot.bytes += 1;
-        self.hot.field.add_byte(kind, b);
+        self.hot.grow(b);
     }
 
     // One more bar: a field of this kind begins, in a line of this row.
@@ -51,24 +47,7 @@ impl Line {
         requires says { says ≤ most_says }
         ensures { self.new.hot ≡ moved_of self.old.hot row fields (number_of kind) says }
     {
-        self.hot.bytes += 1;
-        self.hot.says = says;
-        self.hot.bars += 1;
-        self.hot.row = row;
-        self.hot.fields = fields;
-        self.hot.kind = kind.number();
-        self.hot.field = field::bytes::start();
-    }
-
-    // The lines since the last closing, once the line at hand has ended.
-    #[tactic(auto, unfolding(crate::specs::Machine::since_of))]
-    fn since(&self) -> u64
-        ensures { result ≡ since_of self.now.hot }
-    {
-        if is_closing(self.hot.row) {
-            return 0;
-        }
-        self.hot.since + 1
+        self.hot.begin(row, fields, kind, says);
     }
 
     // The line at hand ends.
@@ -76,14 +55,6 @@ impl Line {
         requires { self.old.hot.bytes < byte_limit }
         ensures { self.new.hot ≡ ended_of self.old.hot }
     {
-        self.hot.since = self.since();
-        self.hot.lines += 1;
-        self.hot.bytes += 1;
-        self.hot.last = self.hot.row;
-        self.hot.bars = 0;
-        self.hot.row = ROWS;
-        self.hot.fields = CODE_ONLY;
-        self.hot.kind = CODE_KIND;
-        self.hot.field = field::bytes::start();
+        self.hot.end();
     }
 }

@@ -24,7 +24,7 @@ impl Line {
 
     // What the line says after a date: the dates of its period, if its row has one.
     #[tactic(auto, unfolding(crate::specs::Machine::dated_of), using(crate::proofs::PeriodPlaces::places))]
-    pub(crate) fn dated(&self) -> u64
+    pub fn dated(&self) -> u64
         ensures { result ≡ dated_of self.now.hot }
     {
         match period_at(self.hot.row) {

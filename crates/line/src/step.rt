@@ -18,7 +18,7 @@ use field::bytes::BAR;
 use field::fault::fault;
 use layout::blocks::BLOCKS;
 use layout::codes::row_of_code;
-use layout::kinds::{CODE, Class, DATE, Kind, OPENS, kind_at};
+use layout::kinds::{CODE, Class, DATE, Kind, NO_FIELD, OPENS, kind_at};
 use layout::roles::block_at;
 use layout::rows::{ROWS, fields_at};
 use rules::{BYTE_LIMIT, Rule};
@@ -38,12 +38,6 @@ const CODE_FIELD: u64 = 2;
 
 // The place of block 9 in the order of blocks.
 const LAST_BLOCK: u64 = BLOCKS as u64 - 1;
-
-// What stands past a row's fields.
-const NO_FIELD: Kind = Kind {
-    class: Class::NoField,
-    size: 0,
-};
 
 // A rule is broken, and its refusal names this field, or 0 for none.
 #[derive(Clone, Copy)]
@@ -233,19 +227,16 @@ impl Line {
     }
 
     // A byte past the last field.
-    #[tactic(auto, unfolding(crate::specs::Machine::past_of), using(crate::proofs::KeptLaws::kept_other))]
-    fn past(&mut self, tally: &mut Tally, b: u8) -> Result<(), Refusal>
-        requires room { self.old.hot.bytes < byte_limit }
-        requires below { Countable tally.old }
+    #[tactic(auto, unfolding(crate::specs::Machine::past_of))]
+    fn past(&mut self, b: u8) -> Result<(), Refusal>
+        requires { self.old.hot.bytes < byte_limit }
         ensures step { step_said result self.new.hot ≡ past_of self.old.hot b }
-        ensures kept { tally.new ≡ kept_after (past_of self.old.hot b) self.old.hot b tally.old }
         ensures refused { OnErr result (self.new ≡ self.old) }
     {
         if self.hot.field.length != 0 {
             if b != LF {
                 return Err(outside(Rule::NoCrLf));
             }
-            tally.note(self);
             self.end();
             return Ok(());
         }
@@ -276,12 +267,11 @@ impl Line {
         Ok(())
     }
 
-    // One byte, and what is noted of it. One that breaks a rule changes nothing.
-    #[tactic(auto, unfolding(crate::specs::Machine::step_of, crate::specs::Machine::in_field_of, crate::specs::Machine::bar_of), using(crate::proofs::KeptLaws::kept_other, crate::proofs::KeptLaws::kept_start))]
-    pub fn judge(&mut self, tally: &mut Tally, b: u8) -> Result<(), Refusal>
-        requires { Countable tally.old }
-        ensures step { step_said result self.new.hot ≡ step_with self.old.hot tally.old b }
-        ensures kept { tally.new ≡ kept_after (step_with self.old.hot tally.old b) self.old.hot b tally.old }
+    // One byte, at what is kept of the lines ended. One that breaks a rule changes nothing.
+    #[tactic(auto, unfolding(crate::specs::Machine::step_of, crate::specs::Machine::in_field_of, crate::specs::Machine::bar_of))]
+    pub fn step(&mut self, tally: &Tally, b: u8) -> Result<(), Refusal>
+        requires { Below (byte_limit + 1) tally.now.counts }
+        ensures step { step_said result self.new.hot ≡ step_with self.old.hot tally.now b }
         ensures refused { OnErr result (self.new ≡ self.old) }
     {
         if BYTE_LIMIT <= self.hot.bytes {
@@ -291,7 +281,7 @@ impl Line {
             return self.first(b);
         }
         if self.hot.fields < self.hot.bars {
-            return self.past(tally, b);
+            return self.past(b);
         }
         if b == BAR {
             if self.hot.bars == 1 {
@@ -306,16 +296,25 @@ impl Line {
         Ok(())
     }
 
-    // The position that the refusal by this rule gives, told from the state before the refusing byte. A file has at most one
-    // refusal: so it is asked there, and a step carries none. (0 for all but 2 and 10 is 02's own.)
-    #[tactic(auto, unfolding(crate::specs::Machine::position_of))]
+    // One byte, and what is noted of it: LF alone ends a line.
+    pub fn judge(&mut self, tally: &mut Tally, b: u8) -> Result<(), Refusal>
+        requires { Countable tally.old }
+        ensures step { step_said result self.new.hot ≡ step_with self.old.hot tally.old b }
+        ensures kept { tally.new ≡ kept_after (step_with self.old.hot tally.old b) self.old.hot b tally.old }
+        ensures refused { OnErr result (self.new ≡ self.old) }
+    {
+        let before = *self;
+        self.step(tally, b)?;
+        if b == LF {
+            tally.note(&before);
+        }
+        Ok(())
+    }
+
+    // The position that the refusal by this rule gives, told from the state before the refusing byte.
     pub fn position(&self, rule: Rule) -> u64
         ensures { result ≡ position_of self.now.hot (rule_number rule) }
     {
-        match rule {
-            Rule::ControlByte => self.hot.field.length + 1,
-            Rule::WrongCharacters => self.hot.field.wrong_at(),
-            _ => 0,
-        }
+        self.hot.position(rule.number())
     }
 }

@@ -8,6 +8,7 @@ ghost use Rattle.line.specs.Machine.{Below, entry_of, used_of, room_of, occurs_o
 ghost use Rattle.line.specs.Machine.{pair_count, pairs_kept, none_is, repeated_of, crowded_of, pair_rule_of};
 ghost use Rattle.line.specs.Tally.{Countable, fresh_tally, counted_tally, raised_tally, paired_tally, stated_tally, tally_with};
 
+use crate::hot::Hot;
 use crate::line::Line;
 use crate::order::{ROW_9900, ROW_9999};
 use crate::periods::{PAIRS, PAIRS_MOST};
@@ -36,7 +37,7 @@ pub struct Tally {
 
 // An array's entry at a row; of no row 0.
 #[tactic(auto, unfolding(crate::specs::Machine::entry_of))]
-fn entry(array: &[u64; ROWS], r: usize) -> u64
+pub fn entry(array: &[u64; ROWS], r: usize) -> u64
     ensures { result ≡ entry_of array.now r }
 {
     array.get(r).copied().unwrap_or(0)
@@ -59,7 +60,7 @@ impl Tally {
 
     // How many lines of the row stand under its parent line: none, if a parent line came after the last of them.
     #[tactic(auto, unfolding(crate::specs::Machine::used_of))]
-    fn used(&self, r: usize) -> u64
+    pub fn used(&self, r: usize) -> u64
         requires { r ≤ row_count }
         ensures { result ≡ used_of self.now.stamps self.now.occurrences r }
     {
@@ -176,7 +177,7 @@ impl Tally {
 
     // What a line of a row that has a period says is the next pair of its row, if there is room.
     #[tactic(auto, unfolding(crate::specs::Tally::paired_of), using(crate::proofs::PeriodPlaces::places))]
-    fn pair(&mut self, line: &Line)
+    pub fn pair(&mut self, line: &Line)
         ensures { self.new ≡ paired_tally self.old line.now.hot }
     {
         let Some(place) = period_at(line.hot.row) else {
@@ -190,15 +191,15 @@ impl Tally {
 
     // What a 9900 line says is stated of a row, or of no row.
     #[tactic(auto, unfolding(crate::specs::Tally::stated_with, crate::specs::Tally::stated_of))]
-    fn state(&mut self, line: &Line)
-        ensures { self.new ≡ stated_tally self.old line.now.hot }
+    pub fn state(&mut self, hot: &Hot)
+        ensures { self.new ≡ stated_tally self.old hot.now }
     {
-        if line.hot.row != ROW_9900 {
+        if hot.row != ROW_9900 {
             return;
         }
-        let r = (line.hot.says % NUMBER_UNIT) as usize;
+        let r = (hot.says % NUMBER_UNIT) as usize;
         if r < ENTRIES {
-            self.stated[r] = joined(self.stated[r], line.hot.says / NUMBER_UNIT);
+            self.stated[r] = joined(self.stated[r], hot.says / NUMBER_UNIT);
         }
     }
 
@@ -209,7 +210,7 @@ impl Tally {
         ensures { self.new ≡ tally_with line.now.hot (line.now.hot.lines + 1) LF self.old }
     {
         self.pair(line);
-        self.state(line);
+        self.state(&line.hot);
         self.raise(block_at(line.hot.row) as usize);
         self.count(line.hot.row, line.hot.lines + 1);
     }
