@@ -41,8 +41,8 @@ impl State {
             return Answer::Refused(self.kept());
         }
         match run(&mut line, &mut self.tally, piece) {
-            Ok(()) => self.open(&line),
-            Err(refusal) => self.stop(&line, refusal),
+            Ok(()) => self.open(line.hot),
+            Err(refusal) => self.stop(line.hot, refusal.rule.number(), refusal.field),
         }
     }
 

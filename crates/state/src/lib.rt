@@ -11,8 +11,6 @@ use crate::answers::{Answer, Numbers};
 use field::bytes::start;
 use layout::rows::ROWS;
 use line::hot::{CODE_KIND, CODE_ONLY, Hot};
-use line::line::Line;
-use line::step::Refusal;
 pub use line::tally::Tally;
 
 // Its numbers stay numbers, and a refusal is no Option: `check` promises its exact answer at every state in range (`check_of`,
@@ -30,7 +28,7 @@ pub struct State {
 }
 
 impl State {
-    ghost use Rattle.rules.specs.Numbers.{rule_number};
+    ghost use Rattle.line.specs.Machine.{HotFit};
     ghost use Rattle.state.specs.Piece.{fresh, kept_of, checked, open_of, stopped_of};
 
     // Before the first byte.
@@ -61,7 +59,7 @@ impl State {
 
     // The refusal that is kept: it is one in the line at hand. (No From: only where there is room for a line more has a state one.)
     #[tactic(auto, unfolding(crate::specs::Piece::kept_of))]
-    fn kept(&self) -> Numbers
+    pub fn kept(&self) -> Numbers
         requires { self.now.hot.lines + 1 < 2 ^ 64 }
         ensures { result ≡ kept_of self.now }
     {
@@ -75,29 +73,30 @@ impl State {
         }
     }
 
-    // A piece ends in this line: nothing is refused so far.
+    // A piece ends here: nothing is refused so far.
     #[tactic(auto, unfolding(crate::specs::Piece::open_of))]
-    fn open(&mut self, line: &Line) -> Answer
-        ensures { checked result self.new ≡ open_of line.now.hot self.old.tally }
+    pub fn open(&mut self, hot: Hot) -> Answer
+        ensures { checked result self.new ≡ open_of hot self.old.tally }
     {
-        self.hot = line.hot;
+        self.hot = hot;
         self.rule = 0;
         self.field = 0;
         self.position = 0;
         self.finished = false;
-        Answer::Open(line.hot.lines, line.hot.bytes)
+        Answer::Open(hot.lines, hot.bytes)
     }
 
-    // A byte has broken a rule in this line: it is judged, and changes nothing else.
+    // A byte has broken the rule of this number here, in this field: it is judged, and changes nothing else.
     #[tactic(auto, unfolding(crate::specs::Piece::stopped_of, crate::specs::Piece::kept_of))]
-    fn stop(&mut self, line: &Line, refusal: Refusal) -> Answer
-        ensures { checked result self.new ≡ stopped_of line.now.hot self.old.tally (rule_number refusal.rule) refusal.field }
+    pub fn stop(&mut self, hot: Hot, rule: u64, field: u64) -> Answer
+        requires { HotFit hot }
+        ensures { checked result self.new ≡ stopped_of hot self.old.tally rule field }
     {
-        self.hot = line.hot;
+        self.hot = hot;
         self.hot.bytes += 1;
-        self.rule = refusal.rule.number();
-        self.field = refusal.field;
-        self.position = line.position(refusal.rule);
+        self.rule = rule;
+        self.field = field;
+        self.position = hot.position(rule);
         self.finished = false;
         Answer::Refused(self.kept())
     }
