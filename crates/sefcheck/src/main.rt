@@ -36,6 +36,8 @@ fn read_piece<R: Read>(from: &mut R, block: &mut [u8], size: usize) -> io::Resul
 }
 
 // A proved loop has to end, and nothing says that the input does: so the pieces are counted, up to a number that no run reaches.
+// (Not inlined: the block then takes no stack of a call whose words are refused.)
+#[inline(never)]
 fn check_input<R: Read, W: Write>(from: &mut R, to: &mut W, wanted: Wanted) -> io::Result<()> {
     let mut state = State::new();
     let mut block = [0u8; LARGEST];

@@ -13,14 +13,14 @@ const DEEPEST: usize = 6;
 // A code's four bytes, as the last ones of its number.
 const CODE_AT: usize = 4;
 
-// The seven lines.
+// The seven lines. The first is one text: who reads as it is written has the verdict whole.
 pub fn answer<W: Write>(to: &mut W, n: Numbers) -> io::Result<()> {
     let verdict = if n.refusal == 0 {
-        "accepted"
+        "result=accepted\n"
     } else {
-        "refused"
+        "result=refused\n"
     };
-    writeln!(to, "result={verdict}")?;
+    to.write_all(verdict.as_bytes())?;
     writeln!(to, "refusal={}", n.refusal)?;
     writeln!(to, "line={}", n.line)?;
     writeln!(to, "field={}", n.field)?;
