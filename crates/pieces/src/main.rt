@@ -11,8 +11,8 @@ use commands::{Command, LARGEST, next_command};
 use gathered::Gathered;
 use layout::rows::ROWS;
 use print::Line;
-use sef::State;
 use sef::answers::Numbers;
+use sef::{State, in_place};
 use std::io::{Read, Result, Write};
 
 // The calls of a batch: where their answers go, and the state that they leave.
@@ -36,19 +36,19 @@ impl<W: Write + Drop> Batch<W> {
     }
 
     fn check(&mut self, piece: &[u8]) -> Result<()> {
-        let said = self.state.check(piece);
+        let said = in_place::check(&mut self.state, piece);
         self.answer("open", said.into(), &[])
     }
 
     fn finish(&mut self) -> Result<()> {
-        let said = self.state.finish();
+        let said = in_place::finish(&mut self.state);
         self.answer("accepted", said.into(), &[])
     }
 
     // The counts stand in the answer where the report is not refused.
     fn report(&mut self) -> Result<()> {
         let mut counts = [0u64; ROWS];
-        let numbers = Numbers::from(self.state.report(&mut counts));
+        let numbers = Numbers::from(in_place::report(&self.state, &mut counts));
         let written: &[u64] = if numbers.refusal == 0 { &counts } else { &[] };
         self.answer("counts", numbers, written)
     }
@@ -56,7 +56,7 @@ impl<W: Write + Drop> Batch<W> {
     // A report with room for one count too few.
     fn report_without_room(&mut self) -> Result<()> {
         let mut counts = [0u64; ROWS - 1];
-        let said = self.state.report(&mut counts);
+        let said = in_place::report(&self.state, &mut counts);
         self.answer("counts", said.into(), &[])
     }
 

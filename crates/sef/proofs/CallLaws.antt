@@ -1,5 +1,5 @@
 -- What each public call promises, by the cases of its code.
-use mathlib.Core.Path.{◌≡◌, ◌∙◌, refl, sym, ap}
+use mathlib.Core.Path.{◌≡◌, ◌∙◌, refl, ap}
 use mathlib.Core.Bool.{true, false}
 use mathlib.Core.List.{List, ◌++◌}
 use mathlib.Core.Logic.{inr}
@@ -12,22 +12,16 @@ use Rattle.layout.specs.Rows.{row_count}
 use Rattle.rules.specs.Verdict.{counts_of}
 use Rattle.rules.proofs.TestLaws.{both, split}
 use Rattle.state.specs.Answers.{numbers, finally_said, report_said}
-use Rattle.state.specs.Piece.{run_of, kept_of}
-use Rattle.state.specs.Calls.{check_of, unchanged, final_answer_of, closed_of, finally_unchanged, finish_of}
+use Rattle.state.specs.Calls.{check_of, finish_of}
 use Rattle.state.specs.Calls.{report_of, reported_of}
 use Rattle.state.specs.Ranges.{ranged_of}
 use Rattle.rules.specs.Bytes.{AllBytes}
 use Rattle.sef.specs.Promises.{more, done, Checks, Finishes, Reports}
 use Rattle.state.specs.declared.State.{State}
-use Rattle.state.specs.declared.answers.Numbers.{Numbers}
 use Rattle.state.specs.declared.answers.Checked.{Checked}
 use Rattle.state.specs.declared.answers.Finished.{Finished}
-use Rattle.state.specs.declared.answers.Answer.TheVariants as Piece
-use Rattle.state.specs.declared.answers.FinalAnswer.{FinalAnswer}
-use Rattle.state.specs.declared.answers.FinalAnswer.TheVariants as Final
 use Rattle.state.specs.declared.answers.ReportAnswer.{ReportAnswer}
 use Rattle.state.specs.declared.answers.ReportAnswer.TheVariants as Report
-use Rattle.state.proofs.CallCases.{check_damaged, check_late, check_kept, check_run, finish_damaged, finish_late, finish_now}
 use Rattle.sef.proofs.InRangeLaws.{check_ranged, finish_ranged}
 use Rattle.sef.proofs.Joined.{given_ranged, given_counts, given_totals, given_ended, check_joined, check_counted}
 use Rattle.sef.proofs.Joined.{check_totalled, finish_joined}

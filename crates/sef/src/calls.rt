@@ -1,9 +1,9 @@
-// The four public calls, on a state that is handed in and given back. Each is the state's own call (`state::calls`), and says beside
-// the exact answer what it comes to for the bytes joined so far.
+// The four public calls, on a state that is handed in and given back.
 ghost use Rattle.std.specs.Prelude.{◌≡◌};
 ghost use Rattle.state.specs.Piece.{fresh};
 ghost use Rattle.sef.specs.Promises.{Checks, Finishes, Reports};
 
+use crate::in_place;
 use state::State;
 use state::answers::{Checked, Finished, ReportAnswer};
 
@@ -19,7 +19,7 @@ pub fn check(s: State, piece: &[u8]) -> Checked
     ensures { Checks s piece.now result }
 {
     let mut state = s;
-    let answer = state.check(piece);
+    let answer = in_place::check(&mut state, piece);
     Checked { answer, state }
 }
 
@@ -28,7 +28,7 @@ pub fn finish(s: State) -> Finished
     ensures { Finishes s result }
 {
     let mut state = s;
-    let answer = state.finish();
+    let answer = in_place::finish(&mut state);
     Finished { answer, state }
 }
 
@@ -36,5 +36,5 @@ pub fn finish(s: State) -> Finished
 pub fn report(s: State, counts: &mut [u64]) -> ReportAnswer
     ensures { Reports s counts.old result counts.new }
 {
-    s.report(counts)
+    in_place::report(&s, counts)
 }

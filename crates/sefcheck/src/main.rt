@@ -8,14 +8,14 @@ mod words;
 
 ghost use Rattle.std.specs.Prelude.{IfOk, length, ◌≤◌};
 
-use sef::State;
+use sef::{State, in_place};
 use std::io;
 use std::io::{Read, Write};
 use words::{Detail, LARGEST, Wanted};
 
 // The answer, and the lines of the state that are asked for beside it.
 fn finish<W: Write>(to: &mut W, state: &mut State, detail: Detail) -> io::Result<()> {
-    print::answer(to, state.finish().into())?;
+    print::answer(to, in_place::finish(state).into())?;
     match detail {
         Detail::Answer => Ok(()),
         Detail::Blocks => print::blocks(to, state),
@@ -46,7 +46,7 @@ fn check_input<R: Read, W: Write>(from: &mut R, to: &mut W, wanted: Wanted) -> i
         if n == 0 {
             return finish(to, &mut state, wanted.detail);
         }
-        state.check(&block[..n]);
+        in_place::check(&mut state, &block[..n]);
     }
     Ok(())
 }

@@ -2,8 +2,8 @@
 use layout::blocks::letter_at;
 use layout::parents::parent_at;
 use layout::rows::{ROWS, code_at};
-use sef::State;
 use sef::answers::Numbers;
+use sef::{State, in_place};
 use std::io;
 use std::io::Write;
 
@@ -47,7 +47,7 @@ fn row<W: Write>(to: &mut W, word: &str, code: u64, n: u64) -> io::Result<()> {
 // Of each row its lines ended, as a report has them.
 pub fn rows<W: Write>(to: &mut W, s: &State) -> io::Result<()> {
     let mut counts = [0u64; ROWS];
-    s.report(&mut counts);
+    in_place::report(s, &mut counts);
     for (r, lines) in counts.iter().enumerate() {
         row(to, "row ", code_at(r), *lines)?;
     }

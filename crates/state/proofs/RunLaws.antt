@@ -18,6 +18,7 @@ use Rattle.state.specs.declared.answers.Checked.{Checked}
 use Rattle.line.proofs.StepRanges.{Leads, stops, step_leads}
 use Rattle.line.proofs.HeldLaws.{held_next}
 use Rattle.run.specs.Places.{Passes, Stops, Onward}
+use Rattle.run.proofs.LoopLaws.{Passed}
 use Rattle.run.proofs.PassLaws.{bytes_from, passes_held}
 use Rattle.run.specs.Places.Passes.{here, byte}
 
@@ -56,12 +57,16 @@ pub run_stops : {h h' : Hot} {t t' : Tally} {xs : List ℕ} {rule field : ℕ} �
 unfolding run_of
 run_stops s = passes_run s.passes ∙ rw s.broken
 
--- The run from the start of a piece is the run from here over what is left of it; and so it stays over whole lines and fields.
+-- The run from the start of a piece is the run from here over what is left of it: so it is at each turn of the loop (`Passed` is its
+-- invariant), and so it stays over whole lines and fields.
 pub record Going (p : List ℕ) (h₀ : Hot) (t₀ : Tally) (h : Hot) (t : Tally) (i : ℕ) : Type 0 where
   pub runs : run_of h₀ t₀ p ≡ run_of h t (drop i p)
   pub within : i ≤ length p
   pub bytes : h.bytes ≡ h₀.bytes + i
   pub held : Held h t
+
+pub going_passed : {p : List ℕ} {h₀ : Hot} {t₀ : Tally} {h : Hot} {t : Tally} {i : ℕ} → Passed p h₀ t₀ h t i → Going p h₀ t₀ h t i
+going_passed g = record { runs = passes_run g.passes; within = g.within; bytes = g.bytes; held = g.held }
 
 pub going_start : (p : List ℕ) (h : Hot) (t : Tally) → Held h t → Going p h t h t 0
 going_start p h t d = record { runs = refl; within = omega arith; bytes = omega arith; held = d }

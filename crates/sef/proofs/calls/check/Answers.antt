@@ -1,5 +1,0 @@
-use Rattle.sef.proofs.CallLaws.{checks}
-use Rattle.sef.proofs.calls.check.Goals as goal
-
-pub returns : goal.returns
-returns c = checks _ _ (λ k. (c.type_inv.piece k).fits) _ c.check-answer.ensures

@@ -1,5 +1,0 @@
-use Rattle.sef.proofs.CallLaws.{finishes}
-use Rattle.sef.proofs.calls.finish.Goals as goal
-
-pub returns : goal.returns
-returns c = finishes _ _ c.finish-answer.ensures
